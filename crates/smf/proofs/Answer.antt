@@ -1,0 +1,24 @@
+-- How a definition is walked from top to bottom, by its tests; and when an answer's meaning fixes the answer.
+use mathlib.Core.Path.{_≡_, refl, sym, ap, _∙_}
+use mathlib.Core.Bool.{Bool, true, false}
+use Prim.Native.Nat.{ℕ, _<_, _≤_}
+use lib.Dec.{ltb}
+use borrow.Author.Tests.{ltb-true, ltb-false}
+use Rattle.smf.specs.Answer.{pick}
+
+-- by the value of a test
+pub by-test {ℓ} : {G : Type ℓ} (t : Bool) → (t ≡ true → G) → (t ≡ false → G) → G
+by-test true f g = f refl
+by-test false f g = g refl
+
+pub by-lt {ℓ} : {G : Type ℓ} (a b : ℕ) → (a < b → G) → (b ≤ a → G) → G
+by-lt a b f g = by-test (ltb a b) (λ e. f (ltb-true a b e)) (λ e. g (ltb-false a b e))
+
+-- what holds of both choices, each knowing its test, holds of the pick
+pub pick-test : {A : Type 0} (P : A → Type 0) (t : Bool) {x y : A} → (t ≡ true → P x) → (t ≡ false → P y) → P (pick t x y)
+pick-test P true p q = p refl
+pick-test P false p q = q refl
+
+-- a function with a way back takes no two values to one
+pub injective : {A B : Type 0} (f : A → B) (back : B → A) → ((a : A) → back (f a) ≡ a) → {x y : A} → f x ≡ f y → x ≡ y
+injective f back same {x} {y} e = sym (same x) ∙ ap back e ∙ same y
