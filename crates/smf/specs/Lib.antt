@@ -4,3 +4,4 @@ pub mod Width
 pub mod Running
 pub mod Number
 pub mod Payload
+pub mod Bend
