@@ -7,23 +7,30 @@ ghost use Rattle.message.specs.Bend.{bendInt, bendF32, bendF64, clampedF
 use number::refusal::Refusal;
 use number::restricted::u14;
 
+// The raw bend: 0x2000 is none.
 pub struct PitchBend(pub u14);
 
-// A bend as an integer, or 18.
+// What `as_int` answers.
 pub enum BendInt {
+    // from -8,192 to 8,191
     Value(i16),
+    // 18: the raw bend is above its width
     Refused(Refusal),
 }
 
-// A bend as an `f32`, or 18.
+// What `as_f32` answers.
 pub enum BendF32 {
+    // the signed bend by 8,192, exactly
     Value(f32),
+    // 18: the raw bend is above its width
     Refused(Refusal),
 }
 
-// A bend as an `f64`, or 18.
+// What `as_f64` answers.
 pub enum BendF64 {
+    // the signed bend by 8,192, exactly
     Value(f64),
+    // 18: the raw bend is above its width
     Refused(Refusal),
 }
 
@@ -71,7 +78,7 @@ impl PitchBend {
         PitchBend::from_int(std::num::truncating_f64_to_i64(clamp_f64(float) * 8192.0) as i16)
     }
 
-    // An integer in -0x2000..=0x1FFF.
+    // The bend as an integer.
     pub fn as_int(self) -> BendInt
         ensures { λ r. ⌜ bendInt r ≡ askBend (self .0 .0) ⌝ }
     {
@@ -83,7 +90,7 @@ impl PitchBend {
         }
     }
 
-    // A number in -1.0..1.0, exactly.
+    // The bend as a number in -1.0..1.0.
     pub fn as_f32(self) -> BendF32
         ensures { λ r. ⌜ bendF32 r ≡ askFloat binary32 (self .0 .0) ⌝ }
         ensures exact { λ r. ⌜ GivesQuotient (self .0 .0) (bendF32 r) ⌝ }

@@ -1,11 +1,12 @@
 -- Laws of bend values: integers, floats and raw bends, there and back.
 use mathlib.Core.Path.{_≡_, refl, sym, ap, subst, _∙_}
+use mathlib.Core.Bool.{true}
 use Prim.Native.Nat.{ℕ, suc, _+_, _-_, _^_, _<_, _≤_}
 use native.Mathlib.Omega.{arith}
 use lib.IntN.{ℤ, pos, negsuc, natAbs, subℕ, _+ℤ_, _-ℤ_, -ℤ-+ℤ-cancel, +ℤ-negℤ-cancel}
 use lib.Signed.{mag}
 use lib.Dec.{ltb, lit<, lit≤}
-use lib.Ieee.{Format, nan, mul, ofInt}
+use lib.Ieee.{Format, nan, fin, mul, ofInt}
 use borrow.Author.Tests.{ltb-false, lt-ltb, le-ltb}
 use Rattle.smf.specs.Answer.{gives, refuses}
 use Rattle.smf.specs.Bend.{lowest, highest, bendOf, clamped, rawOf, askBend, scaled, rawOfFloat, quotient, askFloat, GivesQuotient}
@@ -104,7 +105,7 @@ pub float-back : (f : Format) (raw : ℕ) → raw < 2 ^ 14 → rawOfFloat (quoti
 unfolding rawOfFloat
 float-back f raw h = ap rawOf (scaled-quotient f (bendOf raw) (bend-mag raw h)) ∙ raw-back raw h
 
--- document 01: NaN gives -8,192, and 1.0 gives 8,191
+-- document 01: NaN gives -8,192, 1.0 gives 8,191, and a fraction is dropped toward zero: -1.5 / 8,192 gives -1
 nan-lowest : bendOf (rawOfFloat nan) ≡ lowest
 unfolding clamped rawOf scaled rawOfFloat
 nan-lowest = refl
@@ -112,3 +113,7 @@ nan-lowest = refl
 one-highest : bendOf (rawOfFloat one) ≡ highest
 unfolding clamped rawOf scaled rawOfFloat
 one-highest = refl
+
+toward-zero : bendOf (rawOfFloat (fin true 3 (negsuc 13))) ≡ negsuc 0
+unfolding clamped rawOf scaled rawOfFloat
+toward-zero = refl
