@@ -1,4 +1,8 @@
 pub mod Answer
 pub mod Width
+pub mod Number
+pub mod Payload
+pub mod Place
+pub mod Write
 pub mod BendFloat
 pub mod Bend

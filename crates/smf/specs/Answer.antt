@@ -24,3 +24,7 @@ pub record Rules : Type 0 where
 -- document 01: what strict reading refuses by a number, lenient reading takes as it stands
 abbrev pub strictly : {A : Type 0} → Rules → ℕ → A → Answer A
 strictly rules n a = pick (rules .strict) (refuses n) (gives a)
+
+-- the same rules, read leniently
+abbrev pub leniently : Rules → Rules
+leniently rules = record { strict = false }

@@ -4,4 +4,6 @@ pub mod Width
 pub mod Running
 pub mod Number
 pub mod Payload
+pub mod Place
+pub mod Write
 pub mod Bend

@@ -10,12 +10,16 @@ use Rattle.smf.specs.Answer.{pick, Answer, gives, refuses, Rules, strict
 abbrev pub joined : ℕ → ℕ → ℕ
 joined bits byte = bits * 128 + byte % 128
 
--- SMF: whether the bytes are a number's, all of them: at most k, with bit 7 set on all but the last
+-- whether no byte is left
+abbrev pub none : List ℕ → Bool
+none [] = true
+none (b ∷ bs) = false
+
+-- SMF: whether the bytes, all of them, are a number's: at most k, with bit 7 set on all but the last
 unfoldable pub isNumber : ℕ → List ℕ → Bool
 isNumber zero bytes = false
 isNumber (suc k) [] = false
-isNumber (suc k) (b ∷ []) = ltb b 128
-isNumber (suc k) (b ∷ c ∷ bs) = pick (ltb b 128) false (isNumber k (c ∷ bs))
+isNumber (suc k) (b ∷ bs) = pick (ltb b 128) (none bs) (isNumber k bs)
 
 -- SMF: the number that the bytes stand for, behind the bits so far
 unfoldable pub valueFrom : ℕ → List ℕ → ℕ
