@@ -4,3 +4,5 @@ pub mod Number
 pub mod Payload
 pub mod Place
 pub mod Write
+pub mod BendFloat
+pub mod Bend

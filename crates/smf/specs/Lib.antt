@@ -6,3 +6,4 @@ pub mod Number
 pub mod Payload
 pub mod Place
 pub mod Write
+pub mod Bend
