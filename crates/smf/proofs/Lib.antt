@@ -1,2 +1,4 @@
 pub mod Answer
 pub mod Width
+pub mod Smpte
+pub mod Header

@@ -63,12 +63,19 @@ timeBytes t =
 unfoldable pub encodeTime : Time → Answer (List ℕ)
 encodeTime t = pick (isTime t) (gives (timeBytes t)) (refuses 18)
 
--- document 01: the place of a time in the day, in subframes
-unfoldable pub subframes : Time → ℕ
-subframes t =
-    ((3600 * t .hour + 60 * t .minute + t .second) * t .rate + t .frame) * 100 + t .subframe
+-- document 01: whole seconds since the day began
+unfoldable pub seconds : Time → ℕ
+seconds t = 3600 * t .hour + 60 * t .minute + t .second
 
--- document 01: the position that is asked for; 13 outside its ranges
+-- document 01: frames since the day began
+unfoldable pub frames : Time → ℕ
+frames t = seconds t * t .rate + t .frame
+
+-- document 01: subframes since the day began
+unfoldable pub subframes : Time → ℕ
+subframes t = frames t * 100 + t .subframe
+
+-- document 01: the position of a time, in subframes; 13 outside its ranges
 unfoldable pub position : Time → Answer ℕ
 position t = pick (isTime t) (gives (subframes t)) (refuses 13)
 
