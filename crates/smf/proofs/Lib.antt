@@ -6,3 +6,5 @@ pub mod Place
 pub mod Write
 pub mod BendFloat
 pub mod Bend
+pub mod Smpte
+pub mod Header

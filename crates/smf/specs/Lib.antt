@@ -7,3 +7,5 @@ pub mod Payload
 pub mod Place
 pub mod Write
 pub mod Bend
+pub mod Smpte
+pub mod Header
