@@ -9,3 +9,7 @@ pub mod Write
 pub mod Bend
 pub mod Smpte
 pub mod Header
+pub mod Signed
+pub mod Wire
+pub mod Kind
+pub mod Event

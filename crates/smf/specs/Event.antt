@@ -1,0 +1,239 @@
+-- One event, named: read from bytes, and the bytes of a legal one. Document 01, "Bytes of an event", "Refusal numbers" and "Lists".
+use mathlib.Core.Path.{_≡_}
+use mathlib.Core.Bool.{Bool, true, false, _&&_, _||_, not}
+use mathlib.Core.List.{List, []}
+use Prim.Native.Nat.{ℕ, _+_, _-_, _^_}
+use lib.Dec.{ltb, leb, eqb}
+use lib.Signed.{mag}
+use lib.ListN.{length, take, drop}
+use Rattle.smf.specs.Answer.{pick, Answer, gives, refuses, andThen, Rules}
+use Rattle.smf.specs.Running.{isRunning}
+use Rattle.smf.specs.Place.{Span, placeOf}
+use Rattle.smf.specs.Smpte.{isTime}
+use Rattle.smf.specs.Write.{Written, left, write}
+use Rattle.smf.specs.Wire.{Raw, RawEvent, rawEvent, Taken, taken, Reading, reads, refused, readRaw, encodeRawEvent, runningAfter}
+use Rattle.smf.specs.Kind.{Message, noteOff, noteOn, aftertouch, controller, programChange, channelAftertouch, pitchBend}
+use Rattle.smf.specs.Kind.{Meta, trackNumber, noTrackNumber, text, midiChannel, midiPort, endOfTrack, tempo, smpteOffset, timeSignature, keySignature, sequencerSpecific, unknown}
+use Rattle.smf.specs.Kind.{Kind, midi, sysEx, escape, meta, isText, called, rawOf}
+
+-- a delta and a kind, over what stands for a payload
+pub record Event (P : Type 0) : Type 0 where
+  pub delta : ℕ
+  pub kind : Kind P
+
+abbrev pub event : {P : Type 0} → ℕ → Kind P → Event P
+event delta kind = record { delta = delta; kind = kind }
+
+-- the same kind over something else for a payload
+unfoldable pub mapMeta : {P Q : Type 0} → (P → Q) → Meta P → Meta Q
+mapMeta f (trackNumber n) = trackNumber n
+mapMeta f noTrackNumber = noTrackNumber
+mapMeta f (text t p) = text t (f p)
+mapMeta f (midiChannel c) = midiChannel c
+mapMeta f (midiPort c) = midiPort c
+mapMeta f endOfTrack = endOfTrack
+mapMeta f (tempo v) = tempo v
+mapMeta f (smpteOffset time) = smpteOffset time
+mapMeta f (timeSignature a b c d) = timeSignature a b c d
+mapMeta f (keySignature sharps minor) = keySignature sharps minor
+mapMeta f (sequencerSpecific p) = sequencerSpecific (f p)
+mapMeta f (unknown t p) = unknown t (f p)
+
+unfoldable pub mapKind : {P Q : Type 0} → (P → Q) → Kind P → Kind Q
+mapKind f (midi channel message) = midi channel message
+mapKind f (sysEx p) = sysEx (f p)
+mapKind f (escape p) = escape (f p)
+mapKind f (meta m) = meta (mapMeta f m)
+
+unfoldable pub mapEvent : {P Q : Type 0} → (P → Q) → Event P → Event Q
+mapEvent f e = event (e .delta) (mapKind f (e .kind))
+
+-- Reading
+
+-- an event named: 12, 13 and 14 leave no running status, as every meta event does
+unfoldable pub named : Taken RawEvent → Answer (Kind (List ℕ)) → Reading (Taken (Event (List ℕ)))
+named t (gives kind) = reads (taken (event (t .value .delta) kind) (t .rest) (t .running))
+named t (refuses n) = refused n (t .running)
+
+unfoldable pub nameRaw : Rules → Reading (Taken RawEvent) → Reading (Taken (Event (List ℕ)))
+nameRaw rules (reads t) = named t (called rules (t .value .raw))
+nameRaw rules (refused n running) = refused n running
+
+-- the event that the bytes begin with
+unfoldable pub readEvent : Rules → ℕ → List ℕ → Reading (Taken (Event (List ℕ)))
+readEvent rules running s = nameRaw rules (readRaw rules running s)
+
+-- an event read at a place: payloads as start and length in the bytes lent, the bytes used, the running status after
+pub record EventAt : Type 0 where
+  pub event : Event Span
+  pub used : ℕ
+  pub running : ℕ
+
+-- a payload ends where its event ends
+abbrev pub spanBefore : ℕ → List ℕ → Span
+spanBefore end p = record { start = end - length p; length = length p }
+
+abbrev pub eventPlaced : List ℕ → ℕ → Taken (Event (List ℕ)) → EventAt
+eventPlaced s at t =
+    record {
+      event = mapEvent (spanBefore (placeOf s at (t .rest))) (t .value);
+      used = length (drop at s) - length (t .rest);
+      running = t .running;
+    }
+
+unfoldable pub placed : List ℕ → ℕ → Reading (Taken (Event (List ℕ))) → Reading EventAt
+placed s at (reads t) = reads (eventPlaced s at t)
+placed s at (refused n running) = refused n running
+
+-- the event at a place
+unfoldable pub eventAt : Rules → ℕ → List ℕ → ℕ → Reading EventAt
+eventAt rules running s at = placed s at (readEvent rules running (drop at s))
+
+-- Writing
+
+-- document 01, refusal 18: each restricted field within its width, an SMPTE time within its ranges; a record's bytes are below 256 anyway
+unfoldable pub messageFits : Message → Bool
+messageFits (noteOff key vel) = ltb key 128 && ltb vel 128
+messageFits (noteOn key vel) = ltb key 128 && ltb vel 128
+messageFits (aftertouch key vel) = ltb key 128 && ltb vel 128
+messageFits (controller number value) = ltb number 128 && ltb value 128
+messageFits (programChange program) = ltb program 128
+messageFits (channelAftertouch vel) = ltb vel 128
+messageFits (pitchBend raw) = ltb raw 16384
+
+unfoldable pub metaFits : {P : Type 0} → Meta P → Bool
+metaFits (trackNumber n) = ltb n 65536
+metaFits noTrackNumber = true
+metaFits (text t p) = isText t
+metaFits (midiChannel c) = ltb c 16
+metaFits (midiPort c) = ltb c 128
+metaFits endOfTrack = true
+metaFits (tempo v) = ltb v 16777216
+metaFits (smpteOffset time) = isTime time
+metaFits (timeSignature a b c d) = ltb a 256 && ltb b 256 && ltb c 256 && ltb d 256
+metaFits (keySignature sharps minor) = ltb (mag sharps) 128
+metaFits (sequencerSpecific p) = true
+metaFits (unknown t p) = ltb t 256
+
+unfoldable pub kindFits : {P : Type 0} → Kind P → Bool
+kindFits (midi channel message) = ltb channel 16 && messageFits message
+kindFits (sysEx p) = true
+kindFits (escape p) = true
+kindFits (meta m) = metaFits m
+
+-- what stands for the payload, of the kinds that carry one; else another
+unfoldable pub metaLoad : {P : Type 0} → P → Meta P → P
+metaLoad none (trackNumber n) = none
+metaLoad none noTrackNumber = none
+metaLoad none (text t p) = p
+metaLoad none (midiChannel c) = none
+metaLoad none (midiPort c) = none
+metaLoad none endOfTrack = none
+metaLoad none (tempo v) = none
+metaLoad none (smpteOffset time) = none
+metaLoad none (timeSignature a b c d) = none
+metaLoad none (keySignature sharps minor) = none
+metaLoad none (sequencerSpecific p) = p
+metaLoad none (unknown t p) = p
+
+unfoldable pub kindLoad : {P : Type 0} → P → Kind P → P
+kindLoad none (midi channel message) = none
+kindLoad none (sysEx p) = p
+kindLoad none (escape p) = p
+kindLoad none (meta m) = metaLoad none m
+
+-- document 01, refusal 19: a range not inside the payload bytes; start beyond the end counts even at length 0
+unfoldable pub inside : List ℕ → Span → Bool
+inside bytes span = leb (span .start + span .length) (length bytes)
+
+-- the bytes of a range
+unfoldable pub bytesOf : List ℕ → Span → List ℕ
+bytesOf bytes span = take (span .length) (drop (span .start) bytes)
+
+-- document 01, refusal 23: types 00..09, 2F, 59, 7F always, and 20, 21, 51, 54, 58 at the lengths where they are named
+unfoldable pub isNamed : ℕ → ℕ → Bool
+isNamed t n =
+    leb t 0x09
+    || eqb t 0x2F
+    || eqb t 0x59
+    || eqb t 0x7F
+    || (eqb t 0x20 && leb 1 n)
+    || (eqb t 0x21 && leb 1 n)
+    || (eqb t 0x51 && leb 3 n)
+    || (eqb t 0x54 && leb 5 n)
+    || (eqb t 0x58 && leb 4 n)
+
+-- an `Unknown` that would read as a named kind or be refused as 59, by its payload's length
+unfoldable pub metaMisnamed : {P : Type 0} → (P → ℕ) → Meta P → Bool
+metaMisnamed size (trackNumber n) = false
+metaMisnamed size noTrackNumber = false
+metaMisnamed size (text t p) = false
+metaMisnamed size (midiChannel c) = false
+metaMisnamed size (midiPort c) = false
+metaMisnamed size endOfTrack = false
+metaMisnamed size (tempo v) = false
+metaMisnamed size (smpteOffset time) = false
+metaMisnamed size (timeSignature a b c d) = false
+metaMisnamed size (keySignature sharps minor) = false
+metaMisnamed size (sequencerSpecific p) = false
+metaMisnamed size (unknown t p) = isNamed t (size p)
+
+unfoldable pub kindMisnamed : {P : Type 0} → (P → ℕ) → Kind P → Bool
+kindMisnamed size (midi channel message) = false
+kindMisnamed size (sysEx p) = false
+kindMisnamed size (escape p) = false
+kindMisnamed size (meta m) = metaMisnamed size m
+
+-- what is legal of the event itself
+unfoldable pub isLegal : Event (List ℕ) → Bool
+isLegal e =
+    ltb (e .delta) (2 ^ 28)
+    && kindFits (e .kind)
+    && ltb (length (kindLoad [] (e .kind))) (2 ^ 28)
+    && not (kindMisnamed length (e .kind))
+
+abbrev pub noSpan : Span
+noSpan = record { start = 0; length = 0 }
+
+abbrev pub spanLength : Span → ℕ
+spanLength span = span .length
+
+-- the event that a record is over given payload bytes: 18, 19, 22, 23 in that order where it is none
+unfoldable pub legal : Rules → List ℕ → Event Span → Answer (Event (List ℕ))
+legal rules bytes e =
+    pick (ltb (e .delta) (2 ^ 28) && kindFits (e .kind))
+    (pick (inside bytes (kindLoad noSpan (e .kind)))
+    (pick (ltb (spanLength (kindLoad noSpan (e .kind))) (2 ^ 28))
+    (pick (kindMisnamed spanLength (e .kind)) (refuses 23) (gives (mapEvent (bytesOf bytes) e)))
+    (refuses 22))
+    (refuses 19))
+    (refuses 18)
+
+-- the shortest bytes of an event, from a running status
+unfoldable pub encodeEvent : ℕ → Event (List ℕ) → List ℕ
+encodeEvent running e = encodeRawEvent running (rawEvent (e .delta) (rawOf (e .kind)))
+
+unfoldable pub eventBytes : Rules → ℕ → List ℕ → Event Span → Answer (List ℕ)
+eventBytes rules running bytes e = andThen (legal rules bytes e) (λ l. gives (encodeEvent running l))
+
+-- what writing an event leaves in the buffer and answers, and the running status after it; as given where it is refused
+pub record EventWritten : Type 0 where
+  pub written : Written
+  pub running : ℕ
+
+abbrev pub runningLeft : ℕ → ℕ → Answer ℕ → ℕ
+runningLeft before after (gives n) = after
+runningLeft before after (refuses n) = before
+
+abbrev pub eventWritten : ℕ → ℕ → Written → EventWritten
+eventWritten before after w = record { written = w; running = runningLeft before after (w .answer) }
+
+-- document 01: 1, then 18, 19, 22, 23, then 20; a refused write changes no byte and no running status
+unfoldable pub writeEvent : Rules → ℕ → List ℕ → Event Span → List ℕ → ℕ → EventWritten
+writeEvent rules running bytes e buffer at =
+    eventWritten running (runningAfter (rawOf (mapKind (bytesOf bytes) (e .kind))))
+    (pick (isRunning running) (write (eventBytes rules running bytes e) buffer at) (left buffer 1))
+
+-- document 01, "Lists": two events are the same when deltas, kinds, fields and payload bytes agree; starts don't count
+abbrev pub Same : List ℕ → Event Span → List ℕ → Event Span → Type 0
+Same bytes e bytes′ e′ = mapEvent (bytesOf bytes) e ≡ mapEvent (bytesOf bytes′) e′
