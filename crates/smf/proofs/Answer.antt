@@ -5,7 +5,7 @@ use Prim.Native.Nat.{ℕ, _<_, _≤_}
 use native.Mathlib.Omega.{arith}
 use lib.Dec.{ltb}
 use borrow.Author.Tests.{ltb-true, ltb-false}
-use Rattle.smf.specs.Answer.{pick, gives, refuses}
+use Rattle.smf.specs.Answer.{pick, Answer, gives, refuses}
 
 -- by the value of a test
 pub by-test {ℓ} : {G : Type ℓ} (t : Bool) → (t ≡ true → G) → (t ≡ false → G) → G
@@ -33,3 +33,8 @@ given false x n e = let z : _≡_ {A = ℕ} 0 1 = cc in absurd (omega arith)
 -- a function with a way back takes no two values to one
 pub injective : {A B : Type 0} (f : A → B) (back : B → A) → ((a : A) → back (f a) ≡ a) → {x y : A} → f x ≡ f y → x ≡ y
 injective f back same {x} {y} e = sym (same x) ∙ ap back e ∙ same y
+
+-- the way back of an answer: what its value makes, or what its refusal's number makes
+abbrev pub answered : {A B : Type 0} → (A → B) → (ℕ → B) → Answer A → B
+answered made refused (gives a) = made a
+answered made refused (refuses n) = refused n

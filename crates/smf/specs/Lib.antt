@@ -4,5 +4,7 @@ pub mod Width
 pub mod Running
 pub mod Number
 pub mod Payload
+pub mod Signed
 pub mod Smpte
 pub mod Header
+pub mod Seconds
