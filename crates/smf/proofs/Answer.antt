@@ -57,3 +57,8 @@ then-alike f f′ (refuses n) a′ h k = tt
 -- what is said of an answer holds of the value that it gives
 pub said-of : {A : Type 0} (P : Answer A → Type 0) {a : Answer A} {x : A} → P a → a ≡ gives x → P (gives x)
 said-of P p e = subst P e p
+
+-- the way back of an answer: what its value makes, or what its refusal's number makes
+abbrev pub answered : {A B : Type 0} → (A → B) → (ℕ → B) → Answer A → B
+answered made refused (gives a) = made a
+answered made refused (refuses n) = refused n

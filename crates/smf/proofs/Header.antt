@@ -1,5 +1,5 @@
 -- Laws of header fields: what is written of a format or a timing is read back, what is read is written back, and it is legal.
-use mathlib.Core.Path.{_≡_, refl, subst}
+use mathlib.Core.Path.{_≡_, refl, sym, ap, subst, _∙_}
 use mathlib.Core.Bool.{true}
 use mathlib.Core.List.{List, [], _∷_, _++_}
 use Prim.Native.Nat.{ℕ, _+_, _-_, _*_, _/_, _%_, _<_, _≤_}
@@ -7,9 +7,9 @@ use native.Mathlib.Omega.{arith}
 use lib.Dec.{ltb}
 use lib.ListN.{length, getD}
 use borrow.Author.Tests.{ltb-true, lt-ltb, le-ltb}
-use Rattle.smf.specs.Answer.{Answer, gives, refuses}
+use Rattle.smf.specs.Answer.{Answer, gives, refuses, andThen}
 use Rattle.smf.specs.Smpte.{isRate, toRate}
-use Rattle.smf.specs.Header.{readField, word, twoBytes, isFormat, toFormat, readFormat, formatBytes, Timing, metrical, timecode, isTiming, timingOf, readTiming, timingBytes}
+use Rattle.smf.specs.Header.{readField, word, twoBytes, isFormat, toFormat, readFormat, formatBytes, Timing, metrical, timecode, isTiming, timingFrom, readTiming, timingBytes, encodeTiming}
 use Rattle.smf.proofs.Answer.{by-test, by-lt, both, given}
 use Rattle.smf.proofs.Smpte.{by-rate}
 
@@ -25,6 +25,20 @@ unfolding readField
 field-whole of [] h = absurd (omega arith)
 field-whole of (high ∷ []) h = absurd (omega arith)
 field-whole of (high ∷ low ∷ more) h = refl
+
+-- a format by its number
+pub format-whole : (bytes : List ℕ) {x : ℕ} → 2 ≤ length bytes → x ≡ word (getD bytes 0 0) (getD bytes 1 0) → readFormat bytes ≡ toFormat x
+unfolding readFormat
+format-whole bytes h e = field-whole _ bytes h ∙ ap toFormat (sym e)
+
+-- a timing by its high byte
+pub timing-ticks : (high low : ℕ) → high < 128 → timingFrom high low ≡ gives (metrical (word high low))
+unfolding timingFrom
+timing-ticks high low h = rw (lt-ltb high 128 h)
+
+pub timing-rate : (high low : ℕ) → 128 ≤ high → timingFrom high low ≡ andThen (toRate (256 - high)) (λ rate. gives (timecode rate low))
+unfolding timingFrom
+timing-rate high low h = rw (le-ltb high 128 h)
 
 -- the number of a number's two bytes; and two bytes of their number
 word-back : (x : ℕ) → word (x / 256) (x % 256) ≡ x
@@ -52,9 +66,22 @@ format-read high low more h e =
     let g = given (isFormat (word high low)) (word high low) 15 e in
     subst (FormatRead high low) (g .1) (record { legal = g .0; bytes = bytes-back high low h })
 
+-- what is written of a timing, and what is refused
+pub ticks-written : (ticks : ℕ) → ticks < 32768 → encodeTiming (metrical ticks) ≡ gives (twoBytes ticks)
+unfolding encodeTiming isTiming timingBytes
+ticks-written ticks h = rw (lt-ltb ticks 32768 h)
+
+pub ticks-above : (ticks : ℕ) → 32768 ≤ ticks → encodeTiming (metrical ticks) ≡ refuses 18
+unfolding encodeTiming isTiming
+ticks-above ticks h = rw (le-ltb ticks 32768 h)
+
+pub timecode-written : (rate subframe : ℕ) → isRate rate ≡ true → subframe < 256 → encodeTiming (timecode rate subframe) ≡ gives ((256 - rate) ∷ subframe ∷ [])
+unfolding encodeTiming isTiming timingBytes
+timecode-written rate subframe is h = rw (is, lt-ltb subframe 256 h)
+
 -- what is written of a legal timing is read back, whatever follows
 pub timing-reads-back : (t : Timing) (more : List ℕ) → isTiming t ≡ true → readTiming (timingBytes t ++ more) ≡ gives t
-unfolding readField readTiming timingOf timingBytes isTiming toRate
+unfolding readField readTiming timingFrom timingBytes isTiming toRate
 timing-reads-back (metrical ticks) more is =
     let small : ticks / 256 < 128 = omega (arith, ltb-true ticks 32768 is) in
     rw (lt-ltb (ticks / 256) 128 small, word-back ticks)
@@ -81,7 +108,7 @@ module _ (high low : ℕ) (hh : high < 256) (hl : low < 256) where
       record { legal = rw (is, lt-ltb low 256 hl); bytes = rw back }
 
   pub timing-read : (more : List ℕ) {t : Timing} → readTiming (high ∷ low ∷ more) ≡ gives t → TimingRead high low t
-  unfolding readField readTiming timingOf toRate
+  unfolding readField readTiming timingFrom toRate
   timing-read more {t} e =
       by-lt high 128
       (λ h. let told : gives (metrical (word high low)) ≡ gives t = rw (lt-ltb high 128 h) at e in

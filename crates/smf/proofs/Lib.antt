@@ -8,3 +8,4 @@ pub mod BendFloat
 pub mod Bend
 pub mod Smpte
 pub mod Header
+pub mod Signed

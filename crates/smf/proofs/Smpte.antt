@@ -3,7 +3,7 @@ use mathlib.Core.Path.{_≡_, refl, sym, ap, subst, _∙_}
 use mathlib.Core.Bool.{Bool, true, false}
 use mathlib.Core.Logic.{_↔_}
 use mathlib.Core.List.{List, [], _∷_}
-use Prim.Native.Nat.{ℕ, _+_, _*_, _/_, _%_, _<_}
+use Prim.Native.Nat.{ℕ, _+_, _*_, _/_, _%_, _<_, _≤_}
 use native.Mathlib.Nat.{mul-le-mul-right, mod-eq-of-lt}
 use native.Mathlib.Omega.{arith}
 use lib.Dec.{ltb, eqb}
@@ -105,6 +105,17 @@ time-read first minute second frame subframe {t} e =
 -- a higher number, whatever stands behind it
 higher : (n : ℕ) (a b x y : ℕ) → a < b → x < n → a * n + x < b * n + y
 higher n a b x y ab xn = omega (arith, mul-le-mul-right n ab)
+
+-- how large a legal time's counts are
+pub seconds-below : (t : Time) → InRange t → seconds t < 86400
+unfolding seconds
+seconds-below t r = omega (arith, r)
+
+pub frames-below : (t : Time) → InRange t → frames t < 2592000
+unfolding frames
+frames-below t r =
+    let small : t .rate ≤ 30 = by-rate (λ (rate : ℕ). rate ≤ 30) (omega arith) (omega arith) (omega arith) (omega arith) (t .rate) (r .rated) in
+    omega (arith, higher (t .rate) (seconds t) 86400 (t .frame) 0 (seconds-below t r) (r .frame-below))
 
 -- a legal time in an earlier second or frame has a lower position than any time of its rate in a later one
 module _ (s t : Time) (is : InRange s) (one : s .rate ≡ t .rate) where

@@ -48,14 +48,14 @@ isTiming (metrical ticks) = ltb ticks 32768
 isTiming (timecode rate subframe) = isRate rate && ltb subframe 256
 
 -- SMF: bit 15 clear, ticks; set, the high byte is minus the rate, and minus a number is 256 less the number in a byte
-unfoldable pub timingOf : ℕ → ℕ → Answer Timing
-timingOf high low =
+unfoldable pub timingFrom : ℕ → ℕ → Answer Timing
+timingFrom high low =
     pick (ltb high 128) (gives (metrical (word high low)))
     (andThen (toRate (256 - high)) (λ rate. gives (timecode rate low)))
 
 -- the timing that the bytes begin with
 unfoldable pub readTiming : List ℕ → Answer Timing
-readTiming bytes = readField timingOf bytes
+readTiming bytes = readField timingFrom bytes
 
 -- SMF: the two bytes of a timing
 unfoldable pub timingBytes : Timing → List ℕ

@@ -6,10 +6,11 @@ pub mod Number
 pub mod Payload
 pub mod Place
 pub mod Write
-pub mod Bend
+pub mod Signed
 pub mod Smpte
 pub mod Header
-pub mod Signed
+pub mod Seconds
+pub mod Bend
 pub mod Wire
 pub mod Kind
 pub mod Event

@@ -1,0 +1,90 @@
+-- `Timing::encode` meets its contract: two bytes of the ticks, or minus the rate and a byte.
+use mathlib.Core.Path.{_≡_, sym, ap, _∙_}
+use Prim.Native.Nat.{_-_, _<_}
+use native.Mathlib.Omega.{arith}
+use mir.Syntax.{w8}
+use mir.Facts.{toZ-ofZ}
+use Rattle.smf.specs.Signed.{byteOfSigned}
+use Rattle.smf.proofs.Header.{ticks-written, ticks-above, timecode-written}
+use Rattle.smf.proofs.Signed.{minus-small, minus-fits, byte-negated}
+use Rattle.header.specs.Fps.{rateOf}
+use Rattle.header.proofs.Rates.{Rated, rated}
+use borrow.Author.Needs.{needs}
+use Rattle.header.proofs.timing.Timing.encode.Statement.{statement}
+use Rattle.header.proofs.timing.Timing.encode.Tie as tie
+
+enum-known-self : tie.Need-enum-known-self
+enum-known-self c = search needs
+
+as-int-requires : tie.Need-as-int-requires
+as-int-requires c κs = search needs
+
+returns : tie.Need-returns
+returns c =
+    let b = c .before .before .before in
+    rw (b .self .given .1) (sym (ticks-above (b .self .given .0 .0 .0) (omega (arith, c .before .as-int .ensures))))
+
+cast-t11 : tie.Need-cast-t11
+cast-t11 c = search needs
+
+cast-t13 : tie.Need-cast-t13
+cast-t13 c = search needs
+
+enum-known-self-2 : tie.Need-enum-known-self-2
+enum-known-self-2 c = search needs
+
+as-int-requires-2 : tie.Need-as-int-requires-2
+as-int-requires-2 c κs = search needs
+
+-- the rate's number
+rate-is : (c : tie.After-as-int2) → Rated (c .before .before .self2 .given .0 .0)
+rate-is c = rated (c .before .before .self2 .given .0 .0)
+
+small : (c : tie.After-as-int2) → c .as-int2 .result < 128
+small c = omega (arith, c .as-int2 .ensures, rate-is c .small)
+
+cast-minus : tie.Need-cast-minus
+cast-minus c = record { sfits = omega (arith, small c) }
+
+sub-minus : tie.Need-sub-minus
+sub-minus c = rw (minus-small (c .as-int2 .result) (small c)) (minus-fits (c .as-int2 .result) (small c))
+
+to-byte-requires : tie.Need-to-byte-requires
+to-byte-requires c κs = search needs
+
+returns-2 : tie.Need-returns-2
+returns-2 c =
+    let b = c .before .before .before in
+    rw (b .self .given .1, c .before .as-int .ensures) (sym (ticks-written (b .self .given .0 .0 .0) (omega (arith, c .before .as-int .ensures))))
+
+-- the byte of minus the rate
+byte : (c : tie.After-to-byte) → c .to-byte .result ≡ 256 - rateOf (c .before .before .before .self2 .given .0 .0)
+byte c =
+    let rate = c .before .as-int2 .result in
+    c .to-byte .ensures
+    ∙ ap byteOfSigned (toZ-ofZ {w = w8} (sub-minus (c .before)) ∙ minus-small rate (small (c .before)))
+    ∙ byte-negated rate (omega (arith, c .before .as-int2 .ensures, rate-is (c .before) .some))
+    ∙ ap (λ n. 256 - n) (c .before .as-int2 .ensures)
+
+returns-3 : tie.Need-returns-3
+returns-3 c =
+    let b = c .before .before .before in
+    let told = b .self2 .given in
+    rw (told .1, byte c) (sym (timecode-written (rateOf (told .0 .0)) (told .0 .1 .0) (rated (told .0 .0) .is) (omega arith)))
+
+pub encode-spec : {M : Type 1} → statement M
+encode-spec =
+    tie.close
+    (tie.spec
+    enum-known-self
+    as-int-requires
+    returns
+    cast-t11
+    cast-t13
+    enum-known-self-2
+    as-int-requires-2
+    cast-minus
+    sub-minus
+    to-byte-requires
+    returns-2
+    returns-3)

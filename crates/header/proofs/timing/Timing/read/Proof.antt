@@ -1,0 +1,99 @@
+-- `Timing::read` meets its contract: 17 under two bytes; else the high byte decides between ticks and minus a rate.
+use mathlib.Core.Path.{_≡_, sym, ap, _∙_}
+use Prim.Native.Nat.{_-_}
+use native.Mathlib.Omega.{arith}
+use lib.IntN.{pos, negℤ, natAbs}
+use lib.ListN.{getD}
+use borrow.Author.Needs.{needs}
+use mir.Syntax.{w8, w16}
+use mir.Val.{toZ, ofZ}
+use mir.Facts.{toZ-ofZ}
+use Rattle.smf.specs.Answer.{gives, andThen}
+use Rattle.smf.specs.Smpte.{toRate}
+use Rattle.smf.specs.Header.{readTiming, timingFrom, metrical, timecode}
+use Rattle.smf.proofs.Header.{field-short, field-whole, timing-ticks, timing-rate}
+use Rattle.smf.proofs.Signed.{negated-byte}
+use Rattle.header.specs.Fps.{triedFps}
+use Rattle.header.proofs.timing.Timing.read.Statement.{statement}
+use Rattle.header.proofs.timing.Timing.read.Tie as tie
+
+returns : tie.Need-returns
+unfolding readTiming
+returns c = sym (field-short timingFrom (c .before .before .args .raw .now) (c .if1 .taken))
+
+shared-slice-read-high : tie.Need-shared-slice-read-high
+shared-slice-read-high c = search needs
+
+shared-slice-read-low : tie.Need-shared-slice-read-low
+shared-slice-read-low c = search needs
+
+word-requires : tie.Need-word-requires
+word-requires c κs = search needs
+
+returns-2 : tie.Need-returns-2
+unfolding readTiming
+returns-2 c =
+    let b = c .before .before .before .before in
+    sym (field-whole timingFrom (b .before .before .args .raw .now) (b .if1 .left) ∙ timing-ticks _ _ (c .before .if2 .taken) ∙ ap (λ x. gives (metrical x)) (sym (c .word .ensures)))
+
+from-byte-requires : tie.Need-from-byte-requires
+from-byte-requires c κs = search needs
+
+negated-requires : tie.Need-negated-requires
+negated-requires c κs = search needs
+
+-- the rate that the high byte says
+minus : (c : tie.After-negated) → toZ w16 (ofZ w16 (c .negated .result)) ≡ pos (256 - getD (c .before .before .before .before .before .before .before .args .raw .now) 0 0)
+minus c =
+    let b = c .before .before .before .before .before in
+    let high = getD (b .before .before .args .raw .now) 0 0 in
+    toZ-ofZ {w = w16} (record { sfits = c .negated .ok })
+    ∙ c .negated .ensures
+    ∙ ap negℤ (toZ-ofZ {w = w8} (record { sfits = c .before .from-byte .ok }) ∙ c .before .from-byte .ensures)
+    ∙ negated-byte high (c .before .before .if2 .left) (omega (arith, c .before .before .before .shared-slice-known3 .given 0))
+
+cast-rate : tie.Need-cast-rate
+cast-rate c = rw (minus c) (tt, record { fits = omega (arith, c .before .before .if2 .left) })
+
+from-int-requires : tie.Need-from-int-requires
+from-int-requires c κs = search needs
+
+enum-known-fps : tie.Need-enum-known-fps
+enum-known-fps c = search needs
+
+enum-known-refusal : tie.Need-enum-known-refusal
+enum-known-refusal c = search needs
+
+-- what is read where the high byte says a rate
+told : (c : tie.After-from-int) → readTiming (c .before .before .before .before .before .before .before .before .args .raw .now) ≡ andThen (triedFps (c .from-int .result)) (λ rate. gives (timecode rate (getD (c .before .before .before .before .before .before .before .before .args .raw .now) 1 0)))
+unfolding readTiming
+told c =
+    let b = c .before .before .before .before .before .before in
+    field-whole timingFrom (b .before .before .args .raw .now) (b .if1 .left)
+    ∙ timing-rate _ _ (c .before .before .before .if2 .left)
+    ∙ ap (λ r. andThen r (λ rate. gives (timecode rate (getD (b .before .before .args .raw .now) 1 0))))
+    (sym (c .from-int .ensures ∙ ap toRate (ap natAbs (minus (c .before)))))
+
+returns-3 : tie.Need-returns-3
+returns-3 c = sym (told (c .before .before .before) ∙ rw (c .before .fps .given .1))
+
+returns-4 : tie.Need-returns-4
+returns-4 c = sym (told (c .before .before .before) ∙ rw (c .before .refusal .given .1))
+
+pub read-spec : {M : Type 1} → statement M
+read-spec =
+    tie.close
+    (tie.spec
+    returns
+    shared-slice-read-high
+    shared-slice-read-low
+    word-requires
+    returns-2
+    from-byte-requires
+    negated-requires
+    cast-rate
+    from-int-requires
+    enum-known-fps
+    enum-known-refusal
+    returns-3
+    returns-4)

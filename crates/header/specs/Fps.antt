@@ -1,0 +1,18 @@
+-- A rate as its number, and what `from_int` answers.
+use Prim.Native.Nat.{ℕ}
+use Rattle.smf.specs.Answer.{Answer, gives, refuses}
+use Rattle.number.specs.Refusal.{numberOf}
+use Rattle.header.specs.declared.fps.Fps.{Fps}
+use Rattle.header.specs.declared.fps.Fps.the-variants as fps
+use Rattle.header.specs.declared.fps.TriedFps.{TriedFps}
+use Rattle.header.specs.declared.fps.TriedFps.the-variants as tried
+
+abbrev pub rateOf : Fps → ℕ
+rateOf fps.Fps24 = 24
+rateOf fps.Fps25 = 25
+rateOf fps.Fps29 = 29
+rateOf fps.Fps30 = 30
+
+abbrev pub triedFps : TriedFps → Answer ℕ
+triedFps (tried.Made rate) = gives (rateOf rate)
+triedFps (tried.Refused n) = refuses (numberOf n)
