@@ -1,2 +1,4 @@
 // Modules 4 and 5 of document 01: channel messages, bends and meta messages.
 pub mod bend;
+pub mod meta;
+pub mod midi;

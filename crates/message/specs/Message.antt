@@ -1,0 +1,49 @@
+-- A message as the definitions take it.
+use Prim.Native.Nat.{ℕ}
+use Rattle.smf.specs.Place.{Span}
+use Rattle.smf.specs.Kind as kind
+use Rattle.number.specs.declared.rules.Range.{Range}
+use Rattle.header.specs.Smpte.{smpteTimeOf}
+use Rattle.message.specs.declared.midi.MidiMessage.{MidiMessage}
+use Rattle.message.specs.declared.midi.MidiMessage.the-variants as midi
+use Rattle.message.specs.declared.meta.OptionU16.{OptionU16}
+use Rattle.message.specs.declared.meta.OptionU16.the-variants as option
+use Rattle.message.specs.declared.meta.MetaMessage.{MetaMessage}
+use Rattle.message.specs.declared.meta.MetaMessage.the-variants as meta
+
+abbrev pub messageOf : MidiMessage → kind.Message
+messageOf (midi.NoteOff key vel) = kind.noteOff (key .0) (vel .0)
+messageOf (midi.NoteOn key vel) = kind.noteOn (key .0) (vel .0)
+messageOf (midi.Aftertouch key vel) = kind.aftertouch (key .0) (vel .0)
+messageOf (midi.Controller number value) = kind.controller (number .0) (value .0)
+messageOf (midi.ProgramChange program) = kind.programChange (program .0)
+messageOf (midi.ChannelAftertouch vel) = kind.channelAftertouch (vel .0)
+messageOf (midi.PitchBend bend) = kind.pitchBend (bend .0 .0)
+
+abbrev pub spanOf : Range → Span
+spanOf r = record { start = r .start; length = r .length }
+
+abbrev pub numberMeta : OptionU16 → kind.Meta Span
+numberMeta (option.Some n) = kind.trackNumber n
+numberMeta option.None = kind.noTrackNumber
+
+abbrev pub metaOf : MetaMessage → kind.Meta Span
+metaOf (meta.TrackNumber n) = numberMeta n
+metaOf (meta.Text r) = kind.text 0x01 (spanOf r)
+metaOf (meta.Copyright r) = kind.text 0x02 (spanOf r)
+metaOf (meta.TrackName r) = kind.text 0x03 (spanOf r)
+metaOf (meta.InstrumentName r) = kind.text 0x04 (spanOf r)
+metaOf (meta.Lyric r) = kind.text 0x05 (spanOf r)
+metaOf (meta.Marker r) = kind.text 0x06 (spanOf r)
+metaOf (meta.CuePoint r) = kind.text 0x07 (spanOf r)
+metaOf (meta.ProgramName r) = kind.text 0x08 (spanOf r)
+metaOf (meta.DeviceName r) = kind.text 0x09 (spanOf r)
+metaOf (meta.MidiChannel c) = kind.midiChannel (c .0)
+metaOf (meta.MidiPort c) = kind.midiPort (c .0)
+metaOf meta.EndOfTrack = kind.endOfTrack
+metaOf (meta.Tempo v) = kind.tempo (v .0)
+metaOf (meta.SmpteOffset time) = kind.smpteOffset (smpteTimeOf time)
+metaOf (meta.TimeSignature a b c d) = kind.timeSignature a b c d
+metaOf (meta.KeySignature sharps minor) = kind.keySignature sharps minor
+metaOf (meta.SequencerSpecific r) = kind.sequencerSpecific (spanOf r)
+metaOf (meta.Unknown t r) = kind.unknown t (spanOf r)
