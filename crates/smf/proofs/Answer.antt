@@ -1,0 +1,48 @@
+-- How a definition is walked from top to bottom, by its tests; and when an answer's meaning fixes the answer.
+use mathlib.Core.Path.{_≡_, refl, sym, ap, _∙_, subst}
+use mathlib.Core.Bool.{Bool, true, false}
+use Prim.Native.Nat.{ℕ, _<_, _≤_}
+use lib.Dec.{ltb}
+use borrow.Author.Tests.{ltb-true, ltb-false}
+use Rattle.smf.specs.Answer.{pick, Answer, gives, refuses, andThen, Rules, strictly, leniently}
+
+-- by the value of a test
+pub by-test {ℓ} : {G : Type ℓ} (t : Bool) → (t ≡ true → G) → (t ≡ false → G) → G
+by-test true f g = f refl
+by-test false f g = g refl
+
+pub by-lt {ℓ} : {G : Type ℓ} (a b : ℕ) → (a < b → G) → (b ≤ a → G) → G
+by-lt a b f g = by-test (ltb a b) (λ e. f (ltb-true a b e)) (λ e. g (ltb-false a b e))
+
+-- what holds of both choices, each knowing its test, holds of the pick
+pub pick-test : {A : Type 0} (P : A → Type 0) (t : Bool) {x y : A} → (t ≡ true → P x) → (t ≡ false → P y) → P (pick t x y)
+pick-test P true p q = p refl
+pick-test P false p q = q refl
+
+-- a function with a way back takes no two values to one
+pub injective : {A B : Type 0} (f : A → B) (back : B → A) → ((a : A) → back (f a) ≡ a) → {x y : A} → f x ≡ f y → x ≡ y
+injective f back same {x} {y} e = sym (same x) ∙ ap back e ∙ same y
+
+-- what the first answers, the second answers too
+abbrev pub Alike : {A : Type 0} → Answer A → Answer A → Type 0
+Alike (gives a) other = other ≡ gives a
+Alike (refuses n) other = Unit {0}
+
+pub alike-self : {A : Type 0} (a : Answer A) → Alike a a
+alike-self (gives a) = refl
+alike-self (refuses n) = tt
+
+pub pick-alike : {A : Type 0} (R : A → A → Type 0) (t : Bool) {x x′ y y′ : A} → R x x′ → R y y′ → R (pick t x y) (pick t x′ y′)
+pick-alike R true p q = p
+pick-alike R false p q = q
+
+pub strictly-alike : {A : Type 0} (rules : Rules) (n : ℕ) (a : A) → Alike (strictly rules n a) (strictly (leniently rules) n a)
+strictly-alike rules n a = pick-test (λ (x : Answer _). Alike x (gives a)) (rules .strict) (λ t. tt) (λ t. refl)
+
+pub then-alike : {A B : Type 0} (f f′ : A → Answer B) (a a′ : Answer A) → Alike a a′ → ((x : A) → Alike (f x) (f′ x)) → Alike (andThen a f) (andThen a′ f′)
+then-alike f f′ (gives x) a′ h k = rw h (k x)
+then-alike f f′ (refuses n) a′ h k = tt
+
+-- what is said of an answer holds of the value that it gives
+pub given : {A : Type 0} (P : Answer A → Type 0) {a : Answer A} {x : A} → P a → a ≡ gives x → P (gives x)
+given P p e = subst P e p

@@ -1,0 +1,4 @@
+pub mod Answer
+pub mod Width
+pub mod Number
+pub mod Payload

@@ -1,0 +1,6 @@
+-- What a reader must believe: Standard MIDI Files 1.0 and document 01 as definitions over lists of bytes.
+pub mod Answer
+pub mod Width
+pub mod Running
+pub mod Number
+pub mod Payload
