@@ -1,10 +1,18 @@
--- No two answers of a `try_from` say the same.
+-- No two answers of one function say the same, so that its promise permits one answer alone.
 use mathlib.Core.Path.{_≡_, refl, ap}
 use Prim.Native.Nat.{ℕ}
 use Rattle.smf.specs.Answer.{Answer, gives, refuses}
 use Rattle.smf.proofs.Answer.{injective}
 use Rattle.number.specs.Restricted.{triedU2, triedU4, triedU7, triedU14, triedU15, triedU24, triedU28}
+use Rattle.number.specs.Varlen.{numberRead, sliceRead, writtenTo}
 use Rattle.number.proofs.RefusalNumbers.{refusalOf, number-back}
+use Rattle.smf.specs.Place.{NumberAt, Span}
+use Rattle.number.specs.declared.varlen.ReadNumber.{ReadNumber}
+use Rattle.number.specs.declared.varlen.ReadNumber.the-variants as number
+use Rattle.number.specs.declared.varlen.ReadSlice.{ReadSlice}
+use Rattle.number.specs.declared.varlen.ReadSlice.the-variants as slice
+use Rattle.number.specs.declared.varlen.Written.{Written}
+use Rattle.number.specs.declared.varlen.Written.the-variants as written
 use Rattle.number.specs.declared.restricted.TriedU2.{TriedU2}
 use Rattle.number.specs.declared.restricted.TriedU2.the-variants as u2
 use Rattle.number.specs.declared.restricted.TriedU4.{TriedU4}
@@ -103,3 +111,39 @@ sameU28 (u28.Refused n) = ap u28.Refused (number-back n)
 
 pub triedU28-injective : {x y : TriedU28} → triedU28 x ≡ triedU28 y → x ≡ y
 triedU28-injective = injective triedU28 backU28 sameU28
+
+back-number : Answer NumberAt → ReadNumber
+back-number (gives x) = number.Number (record { value = record { 0 = x .value }; next = x .next })
+back-number (refuses n) = number.Refused (refusalOf n)
+
+same-number : (r : ReadNumber) → back-number (numberRead r) ≡ r
+unfolding back-number
+same-number (number.Number n) = refl
+same-number (number.Refused n) = ap number.Refused (number-back n)
+
+pub numberRead-injective : {x y : ReadNumber} → numberRead x ≡ numberRead y → x ≡ y
+numberRead-injective = injective numberRead back-number same-number
+
+back-slice : Answer Span → ReadSlice
+back-slice (gives x) = slice.Slice (record { start = x .start; length = x .length })
+back-slice (refuses n) = slice.Refused (refusalOf n)
+
+same-slice : (r : ReadSlice) → back-slice (sliceRead r) ≡ r
+unfolding back-slice
+same-slice (slice.Slice r) = refl
+same-slice (slice.Refused n) = ap slice.Refused (number-back n)
+
+pub sliceRead-injective : {x y : ReadSlice} → sliceRead x ≡ sliceRead y → x ≡ y
+sliceRead-injective = injective sliceRead back-slice same-slice
+
+back-written : Answer ℕ → Written
+back-written (gives x) = written.Next x
+back-written (refuses n) = written.Refused (refusalOf n)
+
+same-written : (r : Written) → back-written (writtenTo r) ≡ r
+unfolding back-written
+same-written (written.Next p) = refl
+same-written (written.Refused n) = ap written.Refused (number-back n)
+
+pub writtenTo-injective : {x y : Written} → writtenTo x ≡ writtenTo y → x ≡ y
+writtenTo-injective = injective writtenTo back-written same-written

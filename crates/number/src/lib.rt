@@ -2,3 +2,4 @@
 pub mod refusal;
 pub mod restricted;
 pub mod rules;
+pub mod varlen;

@@ -49,6 +49,12 @@ ahead-count (suc n) zero v h a b = absurd (omega arith)
 ahead-count (suc n) (suc k) v h a b =
     omega (arith, ahead-length (suc k) v (omega (arith, pow-suc 128 n, pow-le-pow-right {n = 128} (omega arith) {i = 0} {j = suc n} (omega arith))), ahead-count n k (v / 128) (omega arith) (omega (arith, pow-suc 128 n)) (omega (arith, pow-suc 128 (suc n))))
 
+-- all k where the bits would fill more
+pub ahead-full : (k v : ℕ) → 128 ^ k ≤ v → length (ahead (suc k) v) ≡ suc k
+unfolding ahead
+ahead-full zero v h = omega (arith, ahead-length 0 v (omega arith))
+ahead-full (suc k) v h = omega (arith, ahead-length (suc k) v (omega (arith, pow-suc 128 k, pow-le-pow-right {n = 128} (omega arith) {i = 0} {j = suc k} (omega arith))), ahead-full k (v / 128) (omega (arith, pow-suc 128 k)))
+
 ahead-monotone : (k m n : ℕ) → m ≤ n → length (ahead k m) ≤ length (ahead k n)
 unfolding ahead
 ahead-monotone zero m n h = omega arith
@@ -66,6 +72,17 @@ ahead-most (suc k) v =
     (eq-zero-or-pos v)
 
 -- The shortest form: its length
+
+-- by the value: one byte below 2^7, two below 2^14, three below 2^21, else four
+pub encode-one : (v : ℕ) → v < 128 → length (encodeNumber v) ≡ 1
+encode-one v h = omega (arith, encode-length v, ap length (ahead-none 3 (v / 128) (omega arith)))
+
+pub encode-count : (n v : ℕ) → n ≤ 2 → 128 ^ suc n ≤ v → v < 128 ^ suc (suc n) → length (encodeNumber v) ≡ suc (suc n)
+encode-count n v h a b =
+    omega (arith, encode-length v, ahead-count n 2 (v / 128) h (omega (arith, pow-suc 128 n)) (omega (arith, pow-suc 128 (suc n))))
+
+pub encode-full : (v : ℕ) → 128 ^ 3 ≤ v → length (encodeNumber v) ≡ 4
+encode-full v h = omega (arith, encode-length v, ahead-full 2 (v / 128) (omega arith))
 
 pub encode-some : (v : ℕ) → 0 < length (encodeNumber v)
 encode-some v = omega (arith, encode-length v)

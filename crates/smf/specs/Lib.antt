@@ -4,3 +4,5 @@ pub mod Width
 pub mod Running
 pub mod Number
 pub mod Payload
+pub mod Place
+pub mod Write

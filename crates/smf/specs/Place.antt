@@ -1,0 +1,36 @@
+-- Places. Document 01, "What must change shape": a slice that shrinks is a place by value; a payload is its start and length in the bytes lent.
+use mathlib.Core.List.{List}
+use Prim.Native.Nat.{ℕ, _+_, _-_}
+use lib.ListN.{length, drop}
+use Rattle.smf.specs.Answer.{Answer, gives, andThen, Rules}
+use Rattle.smf.specs.Number.{Numeral, readNumber}
+use Rattle.smf.specs.Payload.{Payload, readPayload}
+
+-- the place of what is left, of the bytes s read from place at: at, and as many on as were used
+abbrev pub placeOf : List ℕ → ℕ → List ℕ → ℕ
+placeOf s at rest = at + (length (drop at s) - length rest)
+
+-- a number read at a place, and the place after it
+pub record NumberAt : Type 0 where
+  pub value : ℕ
+  pub next : ℕ
+
+abbrev pub numberPlaced : List ℕ → ℕ → Numeral → NumberAt
+numberPlaced s at n = record { value = n .value; next = placeOf s at (n .rest) }
+
+-- the number at a place
+unfoldable pub numberAt : Rules → List ℕ → ℕ → Answer NumberAt
+numberAt rules s at = andThen (readNumber rules (drop at s)) (λ (n : Numeral). gives (numberPlaced s at n))
+
+-- a payload's start and length in the bytes lent
+pub record Span : Type 0 where
+  pub start : ℕ
+  pub length : ℕ
+
+-- it ends where what is left begins
+abbrev pub payloadPlaced : List ℕ → ℕ → Payload → Span
+payloadPlaced s at p = record { start = placeOf s at (p .rest) - length (p .bytes); length = length (p .bytes) }
+
+-- the payload at a place
+unfoldable pub payloadAt : Rules → List ℕ → ℕ → Answer Span
+payloadAt rules s at = andThen (readPayload rules (drop at s)) (λ (p : Payload). gives (payloadPlaced s at p))
