@@ -3,6 +3,7 @@ use mathlib.Core.Path.{_≡_, sym, ap, _∙_}
 use mathlib.Core.Bool.{true, false}
 use mathlib.Core.List.{List}
 use Prim.Native.Nat.{ℕ, _-_, _≤_, _<_}
+use native.Mathlib.Omega.{arith}
 use lib.ListN.{length}
 use Rattle.smf.specs.Answer.{gives, refuses, Rules}
 use Rattle.smf.specs.Place.{numberAt, payloadAt}
@@ -19,12 +20,13 @@ module _ (rules : Rules) (s : List ℕ) (at : ℕ) {r : ReadNumber} (read : numb
   slice-refused e = sym (payload-refused rules s at (sym read ∙ ap numberRead e))
 
   module _ {n : NumberAt} (e : r ≡ Number n) where
-    pub slice-whole : n .value .0 ≤ length s - n .next → gives (record { start = n .next; length = n .value .0 }) ≡ payloadAt rules s at
-    slice-whole h = sym (payload-whole rules s at _ (sym read ∙ ap numberRead e) h)
+    pub slice-whole : {left : ℕ} → left ≡ length s - n .next → n .value .0 ≤ left → gives (record { start = n .next; length = n .value .0 }) ≡ payloadAt rules s at
+    slice-whole count h = sym (payload-whole rules s at _ (sym read ∙ ap numberRead e) (omega arith))
 
-    pub slice-cut-strict : length s - n .next < n .value .0 → rules .strict ≡ true → refuses 11 ≡ payloadAt rules s at
-    slice-cut-strict h t = sym (payload-cut-strict rules s at _ (sym read ∙ ap numberRead e) h t)
+    -- what is left there, as it was counted
+    module _ {left : ℕ} (count : left ≡ length s - n .next) (h : left < n .value .0) where
+      pub slice-cut-strict : rules .strict ≡ true → refuses 11 ≡ payloadAt rules s at
+      slice-cut-strict t = sym (payload-cut-strict rules s at _ (sym read ∙ ap numberRead e) (omega arith) t)
 
-    pub slice-cut-lenient : length s - n .next < n .value .0 → rules .strict ≡ false
-        → gives (record { start = n .next; length = length s - n .next }) ≡ payloadAt rules s at
-    slice-cut-lenient h t = sym (payload-cut-lenient rules s at _ (sym read ∙ ap numberRead e) h t)
+      pub slice-cut-lenient : rules .strict ≡ false → gives (record { start = n .next; length = left }) ≡ payloadAt rules s at
+      slice-cut-lenient t = sym (payload-cut-lenient rules s at _ (sym read ∙ ap numberRead e) (omega arith) t ∙ rw count)

@@ -51,11 +51,10 @@ impl u28 {
         let mut left: u8 = 4;
         let bits = loop {
             if raw.len() <= place {
-                if rules.strict {
+                if rules.strict { // unexpected end
                     return ReadNumber::Refused(Refusal::NumberCutOff);
                 }
-                // Stay with what was read
-                break int;
+                break int; // stay with what was read
             }
             let byte = raw[place];
             int = int * 128 + wide(byte % 128);
@@ -65,11 +64,10 @@ impl u28 {
                 break int;
             }
             if left == 0 {
-                if rules.strict {
+                if rules.strict { // larger than 4 bytes
                     return ReadNumber::Refused(Refusal::NumberContinues);
                 }
-                // Use the 4 bytes as-is
-                break int;
+                break int; // use the 4 bytes as they are
             }
         };
         ReadNumber::Number(NumberAt {

@@ -1,7 +1,8 @@
 -- How a definition is walked from top to bottom, by its tests; and when an answer's meaning fixes the answer.
 use mathlib.Core.Path.{_≡_, refl, sym, ap, _∙_, subst}
-use mathlib.Core.Bool.{Bool, true, false}
+use mathlib.Core.Bool.{Bool, true, false, true≢false, _&&_}
 use Prim.Native.Nat.{ℕ, _<_, _≤_}
+use native.Mathlib.Omega.{arith}
 use lib.Dec.{ltb}
 use borrow.Author.Tests.{ltb-true, ltb-false}
 use Rattle.smf.specs.Answer.{pick, Answer, gives, refuses, andThen, Rules, strictly, leniently}
@@ -18,6 +19,16 @@ by-lt a b f g = by-test (ltb a b) (λ e. f (ltb-true a b e)) (λ e. g (ltb-false
 pub pick-test : {A : Type 0} (P : A → Type 0) (t : Bool) {x y : A} → (t ≡ true → P x) → (t ≡ false → P y) → P (pick t x y)
 pick-test P true p q = p refl
 pick-test P false p q = q refl
+
+-- both of two tests that hold together
+pub both : (a b : Bool) → (a && b) ≡ true → (a ≡ true) × (b ≡ true)
+both true b e = (refl, e)
+both false b e = absurd (true≢false (sym e))
+
+-- what a test gave or else refused was given because the test holds
+pub given : {A : Type 0} (t : Bool) (x : A) (n : ℕ) {y : A} → pick t (gives x) (refuses n) ≡ gives y → (t ≡ true) × (x ≡ y)
+given true x n e = (refl, cc)
+given false x n e = let z : _≡_ {A = ℕ} 0 1 = cc in absurd (omega arith)
 
 -- a function with a way back takes no two values to one
 pub injective : {A B : Type 0} (f : A → B) (back : B → A) → ((a : A) → back (f a) ≡ a) → {x y : A} → f x ≡ f y → x ≡ y
@@ -44,5 +55,5 @@ then-alike f f′ (gives x) a′ h k = rw h (k x)
 then-alike f f′ (refuses n) a′ h k = tt
 
 -- what is said of an answer holds of the value that it gives
-pub given : {A : Type 0} (P : Answer A → Type 0) {a : Answer A} {x : A} → P a → a ≡ gives x → P (gives x)
-given P p e = subst P e p
+pub said-of : {A : Type 0} (P : Answer A → Type 0) {a : Answer A} {x : A} → P a → a ≡ gives x → P (gives x)
+said-of P p e = subst P e p

@@ -4,3 +4,7 @@ pub mod Number
 pub mod Payload
 pub mod Place
 pub mod Write
+pub mod BendFloat
+pub mod Bend
+pub mod Smpte
+pub mod Header

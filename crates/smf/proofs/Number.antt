@@ -12,7 +12,7 @@ use lib.ListN.{length, take, drop, length-append, take-append-drop}
 use borrow.Author.Tests.{lt-ltb, le-ltb, ltb-true, ltb-false, eq-eqb, ne-eqb}
 use Rattle.smf.specs.Answer.{pick, Answer, gives, refuses, Rules, strictly, leniently}
 use Rattle.smf.specs.Number.{joined, none, isNumber, valueFrom, ahead, encodeNumber, Numeral, numeral, numberFrom, readNumber}
-use Rattle.smf.proofs.Answer.{pick-test, given, Alike, pick-alike, strictly-alike}
+use Rattle.smf.proofs.Answer.{pick-test, said-of, Alike, pick-alike, strictly-alike}
 
 -- The groups ahead of the last
 
@@ -280,12 +280,12 @@ read-took rules s = by (readNumber rules s) (read-walked rules s) where
 module _ (rules : Rules) (strict : rules .strict ≡ true) (s : List ℕ) (n : Numeral) (read : readNumber rules s ≡ gives n) where
   pub shortest : length (encodeNumber (n .value)) + length (n .rest) ≤ length s
   shortest =
-      let w : Walked rules 4 0 0 s n = given (Good rules 4 0 0 s) (read-walked rules s) read in
+      let w : Walked rules 4 0 0 s n = said-of (Good rules 4 0 0 s) (read-walked rules s) read in
       few s n (w .count) (w .moved strict) (rw zero-add at (w .below)) (w .whole)
 
   pub smf-number : (used : List ℕ) × (s ≡ used ++ n .rest) × (isNumber 4 used ≡ true) × (n .value ≡ valueFrom 0 used)
   smf-number =
-      let w : Walked rules 4 0 0 s n = given (Good rules 4 0 0 s) (read-walked rules s) read in
+      let w : Walked rules 4 0 0 s n = said-of (Good rules 4 0 0 s) (read-walked rules s) read in
       (take (w .count) s, sym (ap (λ (l : List ℕ). take (w .count) s ++ l) (w .tail) ∙ take-append-drop (w .count) s), w .smf strict, w .means)
 
 -- lenient reading never refuses

@@ -12,7 +12,7 @@ use borrow.Author.Tests.{le-leb, leb-true, leb-false}
 use Rattle.smf.specs.Answer.{pick, Answer, gives, refuses, andThen, Rules, strictly, leniently}
 use Rattle.smf.specs.Number.{encodeNumber, Numeral, numeral, readNumber}
 use Rattle.smf.specs.Payload.{Payload, payload, payloadAfter, readPayload, encodePayload}
-use Rattle.smf.proofs.Answer.{pick-test, given, Alike, pick-alike, strictly-alike, then-alike}
+use Rattle.smf.proofs.Answer.{pick-test, said-of, Alike, pick-alike, strictly-alike, then-alike}
 use Rattle.smf.proofs.Number.{reads-back, Took, NumberTook, read-took, shortest, number-alike, encode-monotone}
 
 pub encode-payload-length : (p : List ℕ) → length (encodePayload p) ≡ length (encodeNumber (length p)) + length p
@@ -40,7 +40,7 @@ PayloadLoaded rules s (refuses m) = rules .strict ≡ true
 
 module _ (rules : Rules) (s : List ℕ) (n : Numeral) (read : readNumber rules s ≡ gives n) where
   took : Took rules s n
-  took = given (NumberTook rules s) (read-took rules s) read
+  took = said-of (NumberTook rules s) (read-took rules s) read
 
   -- whatever part of what follows the number is taken, no longer than the number says
   loaded : (c : ℕ) → c ≤ n .value → c ≤ length (n .rest) → Loaded rules s (payload (take c (n .rest)) (drop c (n .rest)))

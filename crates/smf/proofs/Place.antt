@@ -11,7 +11,7 @@ use Rattle.smf.specs.Answer.{Answer, gives, refuses, andThen, Rules, str
 use Rattle.smf.specs.Number.{Numeral, numeral, readNumber}
 use Rattle.smf.specs.Payload.{Payload, payload, payloadAfter, readPayload}
 use Rattle.smf.specs.Place.{placeOf, NumberAt, numberPlaced, numberAt, Span, payloadPlaced, payloadAt}
-use Rattle.smf.proofs.Answer.{given}
+use Rattle.smf.proofs.Answer.{said-of}
 use Rattle.smf.proofs.Number.{Took, NumberTook, read-took}
 
 -- p is the place of what is left from p on
@@ -76,7 +76,7 @@ payload-refused rules s at {m} e =
 
 module _ (rules : Rules) (s : List ℕ) (at : ℕ) (n : NumberAt) (e : numberAt rules s at ≡ gives n) where
   reached : Reached rules s at n
-  reached = given (NumberReached rules s at) (number-reached rules s at) e
+  reached = said-of (NumberReached rules s at) (number-reached rules s at) e
 
   pub payload-whole : n .value ≤ length s - n .next → payloadAt rules s at ≡ gives (record { start = n .next; length = n .value })
   unfolding payloadAt readPayload payloadAfter

@@ -75,6 +75,7 @@ module _ (p s : List ℕ) (at n : ℕ) (len : length p ≡ n) where
   unfolding encodePayload
   payload-size = length-append (encodeNumber (length p)) p ∙ rw len
 
-  pub payload-put : (l m : List ℕ) → at ≤ length s → l ≡ over (encodeNumber n) s at → m ≡ over p l (at + length (encodeNumber n)) → m ≡ over (encodePayload p) s at
+  pub payload-put : (l m : List ℕ) (q : ℕ) → at ≤ length s → l ≡ over (encodeNumber n) s at → m ≡ over p l q → q ≡ at + length (encodeNumber n) → m ≡ over (encodePayload p) s at
   unfolding encodePayload
-  payload-put l m h e f = f ∙ ap (λ (x : List ℕ). over p x (at + length (encodeNumber n))) e ∙ over-over (encodeNumber n) p s at h ∙ rw len
+  payload-put l m q h e f place =
+      f ∙ rw place (ap (λ (x : List ℕ). over p x (at + length (encodeNumber n))) e ∙ over-over (encodeNumber n) p s at h ∙ rw len)

@@ -6,3 +6,6 @@ pub mod Number
 pub mod Payload
 pub mod Place
 pub mod Write
+pub mod Bend
+pub mod Smpte
+pub mod Header

@@ -1,5 +1,4 @@
 -- `read_varlen_slice` meets its contract, by what `read_u7` answered.
-use native.Mathlib.Omega.{arith}
 use denote.Ref.{now}
 use Rattle.number.specs.Rules.{rulesOf}
 use Rattle.number.proofs.Slices.{slice-refused, slice-whole, slice-cut-strict, slice-cut-lenient}
@@ -25,12 +24,12 @@ bytes-from-requires c κs = search needs
 returns : tie.Need-returns
 returns c =
     let a = c .before .before .before .before .before .before .before .before .args in
-    slice-whole (rulesOf (a .rules)) (now (a .raw)) (a .at) (c .before .before .before .before .before .before .read-u7 .ensures) (c .before .before .before .before .len .given .1) (omega (arith, c .before .bytes-from .ensures))
+    slice-whole (rulesOf (a .rules)) (now (a .raw)) (a .at) (c .before .before .before .before .before .before .read-u7 .ensures) (c .before .before .before .before .len .given .1) (c .before .bytes-from .ensures) (c .if1 .taken)
 
 returns-2 : tie.Need-returns-2
 returns-2 c =
     let a = c .before .before .before .before .before .before .before .before .before .args in
-    slice-cut-strict (rulesOf (a .rules)) (now (a .raw)) (a .at) (c .before .before .before .before .before .before .before .read-u7 .ensures) (c .before .before .before .before .before .len .given .1) (omega (arith, c .before .before .bytes-from .ensures)) (c .if2 .taken)
+    slice-cut-strict (rulesOf (a .rules)) (now (a .raw)) (a .at) (c .before .before .before .before .before .before .before .read-u7 .ensures) (c .before .before .before .before .before .len .given .1) (c .before .before .bytes-from .ensures) (c .before .if1 .left) (c .if2 .taken)
 
 returns-3 : tie.Need-returns-3
 returns-3 c =
@@ -40,7 +39,7 @@ returns-3 c =
 returns-4 : tie.Need-returns-4
 returns-4 c =
     let a = c .before .before .before .before .before .before .before .before .before .args in
-    rw (c .before .before .bytes-from .ensures) (slice-cut-lenient (rulesOf (a .rules)) (now (a .raw)) (a .at) (c .before .before .before .before .before .before .before .read-u7 .ensures) (c .before .before .before .before .before .len .given .1) (omega (arith, c .before .before .bytes-from .ensures)) (c .if2 .left))
+    slice-cut-lenient (rulesOf (a .rules)) (now (a .raw)) (a .at) (c .before .before .before .before .before .before .before .read-u7 .ensures) (c .before .before .before .before .before .len .given .1) (c .before .before .bytes-from .ensures) (c .before .if1 .left) (c .if2 .left)
 
 pub read-varlen-slice-spec : {M : Type 1} → statement M
 read-varlen-slice-spec =

@@ -95,8 +95,7 @@ returns-6 c =
     let fit : a .at + length (encodePayload (part d)) ≤ length (a .out .now) = omega (arith, size d, d .varlen-length .ensures) in
     let l = number-put (a .slice .length) (a .out .now) (a .at) _ (omega arith) (omega (arith, d .varlen-length .ensures)) (c .before .before .before .before .before .before .write-varlen .ensures) in
     let n : d .varlen-length .result + a .slice .length ≡ length (encodePayload (part d)) = omega (arith, size d, d .varlen-length .ensures) in
-    let e : a .at + (d .varlen-length .result + a .slice .length) - a .slice .length ≡ a .at + length (encodeNumber (a .slice .length)) = omega (arith, d .varlen-length .ensures) in
-    let m = payload-put (part d) (a .out .now) (a .at) (a .slice .length) (long d) _ _ (omega arith) l (rw e at (c .before .before .copy-part .ensures)) in
+    let m = payload-put (part d) (a .out .now) (a .at) (a .slice .length) (long d) _ _ (a .at + (d .varlen-length .result + a .slice .length) - a .slice .length) (omega arith) l (c .before .before .copy-part .ensures) (omega (arith, d .varlen-length .ensures)) in
     rw (part-bytes (a .bytes .now) (a .slice .start) (a .slice .length) (omega arith) (omega arith), n, m) (put-fits (encodePayload (part d)) (a .out .now) (a .at) fit)
 
 pub write-varlen-slice-spec : {M : Type 1} → statement M
