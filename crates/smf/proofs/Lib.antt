@@ -9,3 +9,4 @@ pub mod Bend
 pub mod Smpte
 pub mod Header
 pub mod Signed
+pub mod MetaAt
