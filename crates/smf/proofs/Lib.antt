@@ -10,3 +10,5 @@ pub mod Smpte
 pub mod Header
 pub mod Signed
 pub mod MetaAt
+pub mod CalledAt
+pub mod Table
