@@ -12,3 +12,4 @@ pub mod Signed
 pub mod MetaAt
 pub mod CalledAt
 pub mod Table
+pub mod Reading
