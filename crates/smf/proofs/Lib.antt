@@ -9,3 +9,6 @@ pub mod Bend
 pub mod Smpte
 pub mod Header
 pub mod Signed
+pub mod Ends
+pub mod Running
+pub mod Wire
