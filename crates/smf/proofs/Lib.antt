@@ -12,3 +12,4 @@ pub mod Signed
 pub mod Ends
 pub mod Running
 pub mod Wire
+pub mod Kind

@@ -7,7 +7,7 @@ use Prim.Native.Nat.{ℕ, _+_, _*_, _/_, _%_, _<_, _≤_}
 use native.Mathlib.Nat.{mul-le-mul-right, mod-eq-of-lt}
 use native.Mathlib.Omega.{arith}
 use lib.Dec.{ltb, eqb}
-use lib.ListN.{getD}
+use lib.ListN.{length, getD}
 use borrow.Author.Tests.{ltb-true, ltb-false, lt-ltb, le-ltb, eqb-true, eqb-false, eq-eqb, ne-eqb}
 use Rattle.smf.specs.Answer.{pick, Answer, gives}
 use Rattle.smf.specs.Smpte.{isRate, rateOfCode, codeOfRate, Time, time, isTime, toTime, timeOf, timeBytes, seconds, frames, subframes, position, earlier}
@@ -21,6 +21,9 @@ by-rate P p24 p25 p29 p30 rate is =
     (λ n24. by-test (eqb rate 25) (λ e. subst P (sym (eqb-true rate 25 e)) p25)
     (λ n25. by-test (eqb rate 29) (λ e. subst P (sym (eqb-true rate 29 e)) p29)
     (λ n29. subst P (sym (eqb-true rate 30 (rw (n24, n25, n29) at is))) p30)))
+
+pub rate-most : (rate : ℕ) → isRate rate ≡ true → rate ≤ 30
+rate-most = by-rate (λ (rate : ℕ). rate ≤ 30) (omega arith) (omega arith) (omega arith) (omega arith)
 
 -- every code has a rate
 pub code-rated : (code : ℕ) → isRate (rateOfCode code) ≡ true
@@ -74,6 +77,10 @@ pub is-time : (t : Time) → InRange t → isTime t ≡ true
 unfolding isTime
 is-time t r = rw (r .rated, lt-ltb _ _ (r .hour-below), lt-ltb _ _ (r .minute-below), lt-ltb _ _ (r .second-below), lt-ltb _ _ (r .frame-below), lt-ltb _ _ (r .subframe-below))
 
+pub time-length : (t : Time) → length (timeBytes t) ≡ 5
+unfolding timeBytes
+time-length t = refl
+
 -- the time that five bytes of a list say
 abbrev pub timeIn : List ℕ → Answer Time
 timeIn bytes = timeOf (getD bytes 0 0) (getD bytes 1 0) (getD bytes 2 0) (getD bytes 3 0) (getD bytes 4 0)
@@ -114,7 +121,7 @@ seconds-below t r = omega (arith, r)
 pub frames-below : (t : Time) → InRange t → frames t < 2592000
 unfolding frames
 frames-below t r =
-    let small : t .rate ≤ 30 = by-rate (λ (rate : ℕ). rate ≤ 30) (omega arith) (omega arith) (omega arith) (omega arith) (t .rate) (r .rated) in
+    let small = rate-most (t .rate) (r .rated) in
     omega (arith, higher (t .rate) (seconds t) 86400 (t .frame) 0 (seconds-below t r) (r .frame-below))
 
 -- a legal time in an earlier second or frame has a lower position than any time of its rate in a later one
