@@ -13,3 +13,4 @@ pub mod Ends
 pub mod Running
 pub mod Wire
 pub mod Kind
+pub mod Event

@@ -39,6 +39,12 @@ loadOf (two status a b) = []
 loadOf (system status p) = p
 loadOf (typed t p) = p
 
+pub load-small : (raw : Raw) → Sound raw → length (loadOf raw) < 2 ^ 28
+load-small (one status a) h = omega arith
+load-small (two status a b) h = omega arith
+load-small (system status p) h = h .1
+load-small (typed t p) h = h
+
 pub after-runs : (raw : Raw) → Sound raw → isRunning (runningAfter raw) ≡ true
 after-runs (one status a) h = channel-runs status (h .0)
 after-runs (two status a b) h = channel-runs status (h .0)
