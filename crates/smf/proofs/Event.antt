@@ -1,27 +1,26 @@
 -- The laws of one event: what is written is read back; what is read is legal, stands where its record says, and is never read from fewer
 -- bytes than are written for it; and when a record is legal.
 use mathlib.Core.Path.{_≡_, refl, sym, ap, _∙_, subst}
-use mathlib.Core.Bool.{Bool, true, false, true≢false, _&&_, _||_, not}
-use mathlib.Core.List.{List, [], _∷_, _++_, append-nil}
+use mathlib.Core.Bool.{Bool, true, _&&_, not}
+use mathlib.Core.List.{List, [], _++_, append-nil}
 use mathlib.Core.Logic.{_⊎_, inl, inr, ⊎-elim, _↔_}
 use Prim.Native.Nat.{ℕ, _+_, _-_, _^_, _≤_, _<_}
 use native.Mathlib.Omega.{arith}
-use lib.Dec.{ltb, leb, eqb}
+use lib.Dec.{ltb}
 use lib.ListN.{length, take, drop, length-drop}
 use lib.Seq.{drop-drop, length-take-le}
 use borrow.Author.Tests.{lt-ltb, ltb-true, leb-true, not-true}
-use Rattle.smf.specs.Answer.{pick, Answer, gives, refuses, Rules, leniently}
+use Rattle.smf.specs.Answer.{Answer, gives, refuses, Rules, leniently}
 use Rattle.smf.specs.Running.{isRunning}
-use Rattle.smf.specs.Number.{encodeNumber}
 use Rattle.smf.specs.Place.{Span, placeOf}
-use Rattle.smf.specs.Wire.{Raw, RawEvent, rawEvent, Taken, taken, Reading, reads, refused, readRaw, encodeRaw, encodeRawEvent, runningAfter}
+use Rattle.smf.specs.Wire.{RawEvent, rawEvent, Taken, taken, Reading, reads, refused, readRaw, encodeRawEvent, runningAfter}
 use Rattle.smf.specs.Kind.{Meta, trackNumber, noTrackNumber, text, midiChannel, midiPort, endOfTrack, tempo, smpteOffset, timeSignature, keySignature, sequencerSpecific, unknown}
 use Rattle.smf.specs.Kind.{Kind, midi, sysEx, escape, meta, called, rawOf}
-use Rattle.smf.specs.Event.{Event, event, mapMeta, mapKind, mapEvent, named, nameRaw, readEvent, EventAt, spanBefore, eventPlaced, placed, eventAt}
+use Rattle.smf.specs.Event.{Event, event, mapMeta, mapKind, mapEvent, named, nameRaw, readEvent, spanBefore, eventPlaced, placed, eventAt}
 use Rattle.smf.specs.Event.{metaFits, kindFits, metaLoad, kindLoad, inside, bytesOf, isNamed, metaMisnamed, kindMisnamed, isLegal, noSpan, spanLength, legal, encodeEvent}
 use Rattle.smf.proofs.Answer.{pick-test, both, said-of, Alike, Gives}
 use Rattle.smf.proofs.Ends.{Ends, ends-bare, ends-length, ends-tail, ends-load}
-use Rattle.smf.proofs.Wire.{Sound, loadOf, load-small, after-runs, raw-reads-back, Fewest, Read, RawRead, raw-read, raw-event-length, ReadsAlike, raw-alike}
+use Rattle.smf.proofs.Wire.{load-small, after-runs, raw-reads-back, Read, RawRead, raw-read, raw-event-length, ReadsAlike, raw-alike}
 use Rattle.smf.proofs.Kind.{LegalKind, kind-called, kind-sound, Named, raw-named, called-alike}
 
 -- what is legal of an event: its delta and its kind

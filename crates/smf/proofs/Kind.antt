@@ -1,7 +1,7 @@
 -- The laws of named kinds: a legal kind is called itself by its raw event; what a raw event is called is legal, and no longer when it is written.
-use mathlib.Core.Path.{_≡_, refl, sym, ap, _∙_, subst}
-use mathlib.Core.Bool.{Bool, true, false, true≢false, _&&_, _||_, not}
-use mathlib.Core.List.{List, [], _∷_, _++_}
+use mathlib.Core.Path.{_≡_, refl, sym, ap, _∙_}
+use mathlib.Core.Bool.{Bool, true, false, true≢false, _&&_, not}
+use mathlib.Core.List.{List, [], _∷_}
 use mathlib.Core.Logic.{_⊎_, inl, inr, ⊎-elim, _↔_}
 use Prim.Native.Nat.{ℕ, _+_, _-_, _*_, _/_, _%_, _^_, _≤_, _<_}
 use native.Mathlib.Nat.{mod-eq-of-lt, mod-lt}
@@ -9,11 +9,11 @@ use native.Mathlib.Omega.{arith}
 use lib.Dec.{ltb, leb, eqb}
 use lib.IntN.{ℤ, pos, negsuc}
 use lib.Signed.{mag}
-use lib.ListN.{length, getD}
-use borrow.Author.Tests.{lt-ltb, le-ltb, ltb-true, ltb-false, le-leb, lt-leb, leb-true, leb-false, eq-eqb, ne-eqb, eqb-true, eqb-false}
+use lib.ListN.{length}
+use borrow.Author.Tests.{lt-ltb, ltb-true, le-leb, lt-leb, leb-true, leb-false, eq-eqb, ne-eqb, eqb-true, eqb-false}
 use Rattle.smf.specs.Answer.{pick, Answer, gives, refuses, andThen, Rules, leniently}
 use Rattle.smf.specs.Signed.{signedByte, byteOfSigned}
-use Rattle.smf.specs.Smpte.{Time, isTime, timeOf, timeBytes, codeOfRate}
+use Rattle.smf.specs.Smpte.{Time, isTime, timeBytes, codeOfRate}
 use Rattle.smf.specs.Wire.{Raw, one, two, system, typed, dataLength, encodeRaw, runningAfter}
 use Rattle.smf.specs.Kind.{Message, noteOff, noteOn, aftertouch, controller, programChange, channelAftertouch, pitchBend}
 use Rattle.smf.specs.Kind.{Meta, trackNumber, noTrackNumber, text, midiChannel, midiPort, endOfTrack, tempo, smpteOffset, timeSignature, keySignature, sequencerSpecific, unknown}
@@ -23,8 +23,7 @@ use Rattle.smf.proofs.Answer.{by-test, by-lt, pick-test, both, said-of,
 use Rattle.smf.proofs.Number.{encode-monotone}
 use Rattle.smf.proofs.Payload.{encode-payload-length}
 use Rattle.smf.proofs.Signed.{signed-low, signed-high, signed-back}
-use Rattle.smf.proofs.Smpte.{InRange, in-range, rate-most, Coded, rate-coded, time-length, time-reads-back, TimeRead, time-read}
-use Rattle.smf.proofs.Ends.{Ends, ends-bare}
+use Rattle.smf.proofs.Smpte.{in-range, rate-most, rate-coded, time-length, time-reads-back, time-read}
 use Rattle.smf.proofs.Running.{Channel}
 use Rattle.smf.proofs.Wire.{Sound, takesOne, loadOf}
 
