@@ -138,9 +138,10 @@ module _ (rules : Rules) where
   byte-own : (a : ℕ) → ltb a 256 ≡ true → a % 256 ≡ a
   byte-own a f = mod-eq-of-lt (ltb-true a 256 f)
 
-  narrow-own : (limit c : ℕ) → c < limit → limit ≤ 256 → narrow rules limit (c % 256) ≡ gives c
+  narrow-own : (limit c : ℕ) (of : ℕ → Meta (List ℕ)) → c < limit → limit ≤ 256
+      → andThen (andThen (narrow rules limit (c % 256)) (λ n. gives (of n))) (λ m. gives (meta m)) ≡ gives (meta (of c))
   unfolding narrow
-  narrow-own limit c h l = let e : c % 256 ≡ c = mod-eq-of-lt (omega arith) in rw (e, lt-ltb c limit h)
+  narrow-own limit c of h l = let e : c % 256 ≡ c = mod-eq-of-lt (omega arith) in rw (e, lt-ltb c limit h)
 
   time-own : (time : Time) → isTime time ≡ true → timeIn (timeBytes time) ≡ gives time
   unfolding timeBytes
@@ -168,8 +169,8 @@ module _ (rules : Rules) where
   meta-called (trackNumber n) f o = let g = ltb-true n 65536 f in ap (λ (k : ℕ). gives (meta (trackNumber k))) (omega arith)
   meta-called noTrackNumber f o = refl
   meta-called (text t p) f o = rw (ne-eqb t 0x00 (omega (arith, is-text t f .0)), f)
-  meta-called (midiChannel c) f o = rw (narrow-own 16 c (ltb-true c 16 f) (omega arith))
-  meta-called (midiPort c) f o = rw (narrow-own 128 c (ltb-true c 128 f) (omega arith))
+  meta-called (midiChannel c) f o = narrow-own 16 c midiChannel (ltb-true c 16 f) (omega arith)
+  meta-called (midiPort c) f o = narrow-own 128 c midiPort (ltb-true c 128 f) (omega arith)
   meta-called endOfTrack f o = refl
   meta-called (tempo v) f o = let g = ltb-true v 16777216 f in ap (λ (k : ℕ). gives (meta (tempo k))) (omega arith)
   meta-called (smpteOffset time) f o = rw (time-length time, time-own time f)
