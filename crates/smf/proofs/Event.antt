@@ -16,12 +16,13 @@ use Rattle.smf.specs.Place.{Span, placeOf}
 use Rattle.smf.specs.Wire.{RawEvent, rawEvent, Taken, taken, Reading, reads, refused, readRaw, encodeRawEvent, runningAfter}
 use Rattle.smf.specs.Kind.{Meta, trackNumber, noTrackNumber, text, midiChannel, midiPort, endOfTrack, tempo, smpteOffset, timeSignature, keySignature, sequencerSpecific, unknown}
 use Rattle.smf.specs.Kind.{Kind, midi, sysEx, escape, meta, called, rawOf}
-use Rattle.smf.specs.Event.{Event, event, mapMeta, mapKind, mapEvent, named, nameRaw, readEvent, spanBefore, eventPlaced, placed, eventAt}
+use Rattle.smf.specs.Event.{Event, event, mapMeta, mapKind, mapEvent, named, nameRaw, readEvent, EventAt, spanBefore, eventPlaced, placed, eventAt}
 use Rattle.smf.specs.Event.{metaFits, kindFits, metaLoad, kindLoad, inside, bytesOf, isNamed, metaMisnamed, kindMisnamed, isLegal, noSpan, spanLength, legal, encodeEvent}
 use Rattle.smf.proofs.Answer.{pick-test, both, said-of, Alike, Gives}
 use Rattle.smf.proofs.Ends.{Ends, ends-bare, ends-length, ends-tail, ends-load}
 use Rattle.smf.proofs.Wire.{load-small, after-runs, raw-reads-back, Read, RawRead, raw-read, raw-event-length, ReadsAlike, raw-alike}
-use Rattle.smf.proofs.Kind.{LegalKind, kind-called, kind-sound, Named, raw-named, called-alike}
+use Rattle.smf.proofs.Kind.{LegalKind, kind-called, kind-sound}
+use Rattle.smf.proofs.Named.{Named, raw-named, called-alike}
 
 -- what is legal of an event: its delta and its kind
 pub record Legal (e : Event (List ℕ)) : Type 0 where
@@ -176,6 +177,31 @@ module _ (rules : Rules) (running : ℕ) (s : List ℕ) (at : ℕ) (t : Taken (E
       sym (read-payload rules running (drop at s) t read ∙ ap (take (length p)) (drop-drop (length (drop at s) - length (t .rest) - length p) at s ∙ ap (λ (x : ℕ). drop x s) start))
       in
       ap (event (t .value .delta)) (kind-placed s (placeOf s at (t .rest)) (t .value .kind) stands)
+
+-- what is known of an event that was read at a place: its record is, over the bytes lent, the event that they hold there,
+-- and what is left begins as many bytes on as were used, some, and within the bytes
+pub record Reached (rules : Rules) (running : ℕ) (s : List ℕ) (at : ℕ) (a : EventAt) : Type 0 where
+  pub read : readEvent rules running (drop at s) ≡ reads (taken (mapEvent (bytesOf s) (a .event)) (drop (at + a .used) s) (a .running))
+  pub some : 0 < a .used
+  pub within : at + a .used ≤ length s
+
+abbrev pub EventReached : Rules → ℕ → List ℕ → ℕ → Reading EventAt → Type 0
+EventReached rules running s at (reads a) = Reached rules running s at a
+EventReached rules running s at (refused n after) = readEvent rules running (drop at s) ≡ refused n after
+
+pub event-reached : (rules : Rules) (running : ℕ) (s : List ℕ) (at : ℕ) → EventReached rules running s at (eventAt rules running s at)
+unfolding eventAt placed
+event-reached rules running s at = by (readEvent rules running (drop at s)) refl where
+  by : (a : Reading (Taken (Event (List ℕ)))) → readEvent rules running (drop at s) ≡ a → EventReached rules running s at (placed s at a)
+  by (refused n after) e = e
+  by (reads t) e =
+      let past = event-read rules running (drop at s) t e .past in
+      let tail : t .rest ≡ drop (at + (length (drop at s) - length (t .rest))) s = read-tail rules running (drop at s) t e ∙ drop-drop (length (drop at s) - length (t .rest)) at s in
+      record {
+        read = e ∙ rw (placed-itself rules running s at t e, ← tail) refl;
+        some = omega arith;
+        within = omega (arith, length-drop at s);
+      }
 
 -- What strict reading accepts, lenient reads alike
 

@@ -13,4 +13,5 @@ pub mod Ends
 pub mod Running
 pub mod Wire
 pub mod Kind
+pub mod Named
 pub mod Event
