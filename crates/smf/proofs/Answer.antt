@@ -20,6 +20,10 @@ pub pick-test : {A : Type 0} (P : A → Type 0) (t : Bool) {x y : A} → (t ≡ 
 pick-test P true p q = p refl
 pick-test P false p q = q refl
 
+pub pick-both : {A : Type 0} (P : A → Type 0) (t : Bool) {x y : A} → P x → P y → P (pick t x y)
+pick-both P true p q = p
+pick-both P false p q = q
+
 -- both of two tests that hold together
 pub both : (a b : Bool) → (a && b) ≡ true → (a ≡ true) × (b ≡ true)
 both true b e = (refl, e)
@@ -66,6 +70,9 @@ Gives P (refuses n) = Unit {0}
 pub then-gives : {A B : Type 0} (P : A → Type 0) (Q : B → Type 0) (f : A → Answer B) (a : Answer A) → Gives P a → ((x : A) → P x → Gives Q (f x)) → Gives Q (andThen a f)
 then-gives P Q f (gives x) p k = k x p
 then-gives P Q f (refuses n) p k = tt
+
+pub said-refused : {A : Type 0} (P : Answer A → Type 0) {a : Answer A} {n : ℕ} → P a → a ≡ refuses n → P (refuses n)
+said-refused P p e = subst P e p
 
 -- the way back of an answer: what its value makes, or what its refusal's number makes
 abbrev pub answered : {A B : Type 0} → (A → B) → (ℕ → B) → Answer A → B

@@ -21,7 +21,7 @@ use Rattle.smf.specs.Kind.{Kind, midi, sysEx, escape, meta, messageOne, 
 use Rattle.smf.specs.Event.{messageFits, metaFits, kindFits, metaLoad, kindLoad, isNamed, metaMisnamed, kindMisnamed}
 use Rattle.smf.proofs.Answer.{pick-test, both}
 use Rattle.smf.proofs.Signed.{signed-back}
-use Rattle.smf.proofs.Smpte.{in-range, rate-most, rate-coded, time-length, time-reads-back}
+use Rattle.smf.proofs.Smpte.{in-range, rate-small, rate-coded, time-length, time-reads-back}
 use Rattle.smf.proofs.Running.{Channel}
 use Rattle.smf.proofs.Wire.{Sound, takesOne}
 
@@ -143,7 +143,7 @@ time-own time is =
     let first : (codeOfRate (time .rate) * 32 + time .hour) % 256 ≡ codeOfRate (time .rate) * 32 + time .hour = mod-eq-of-lt (omega (arith, c .small)) in
     let minute : time .minute % 256 ≡ time .minute = mod-eq-of-lt (omega (arith, r .minute-below)) in
     let second : time .second % 256 ≡ time .second = mod-eq-of-lt (omega (arith, r .second-below)) in
-    let frame : time .frame % 256 ≡ time .frame = mod-eq-of-lt (omega (arith, r .frame-below, rate-most (time .rate) (r .rated))) in
+    let frame : time .frame % 256 ≡ time .frame = mod-eq-of-lt (omega (arith, r .frame-below, rate-small (time .rate) (r .rated))) in
     let subframe : time .subframe % 256 ≡ time .subframe = mod-eq-of-lt (omega (arith, r .subframe-below)) in
     rw (first, minute, second, frame, subframe) (time-reads-back time is)
 

@@ -15,3 +15,6 @@ pub mod Wire
 pub mod Kind
 pub mod Named
 pub mod Event
+pub mod MetaAt
+pub mod CalledAt
+pub mod Table

@@ -9,7 +9,7 @@ use lib.ListN.{length, getD}
 use Rattle.smf.specs.Answer.{pick, Answer, gives, refuses, andThen, Rules}
 use Rattle.smf.specs.Signed.{signedByte, byteOfSigned}
 use Rattle.smf.specs.Smpte.{Time, timeOf, timeBytes}
-use Rattle.smf.specs.Wire.{Raw, one, two, system, typed}
+use Rattle.smf.specs.Wire.{dataLength, Raw, one, two, system, typed}
 
 -- the seven channel messages
 pub data Message : Type 0 where
@@ -57,6 +57,10 @@ messageTwo upper a b =
     (pick (eqb upper 0xA) (aftertouch a b)
     (pick (eqb upper 0xB) (controller a b)
     (pitchBend (a + 128 * b)))))
+
+-- the message of a status and its data, of which C and D use the first alone
+unfoldable pub messageWith : ℕ → ℕ → ℕ → Message
+messageWith status a b = pick (eqb (dataLength status) 1) (messageOne (status / 16) a) (messageTwo (status / 16) a b)
 
 -- document 01: 01..09 the text kinds
 unfoldable pub isText : ℕ → Bool

@@ -14,3 +14,4 @@ pub mod Bend
 pub mod Wire
 pub mod Kind
 pub mod Event
+pub mod MetaAt

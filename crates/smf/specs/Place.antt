@@ -1,4 +1,5 @@
 -- Places. Document 01, "What must change shape": a slice that shrinks is a place by value; a payload is its start and length in the bytes lent.
+use mathlib.Core.Path.{_≡_}
 use mathlib.Core.List.{List}
 use Prim.Native.Nat.{ℕ, _+_, _-_}
 use lib.ListN.{length, drop}
@@ -9,6 +10,10 @@ use Rattle.smf.specs.Payload.{Payload, readPayload}
 -- the place of what is left, of the bytes s read from place at: at, and as many on as were used
 abbrev pub placeOf : List ℕ → ℕ → List ℕ → ℕ
 placeOf s at rest = at + (length (drop at s) - length rest)
+
+-- p is the place of what is left from p on: at, or one that was reached from there within the bytes
+abbrev pub Sited : List ℕ → ℕ → ℕ → Type 0
+Sited s at p = placeOf s at (drop p s) ≡ p
 
 -- a number read at a place, and the place after it
 pub record NumberAt : Type 0 where

@@ -42,6 +42,10 @@ pub data Reading (A : Type 0) : Type 0 where
 unfoldable pub dataLength : ℕ → ℕ
 dataLength status = pick (eqb (status / 16) 0xC) 1 (pick (eqb (status / 16) 0xD) 1 2)
 
+-- the same over every status byte, by its upper half: 0 for those that are no channel status
+unfoldable pub tableLength : ℕ → ℕ
+tableLength status = pick (ltb (status / 16) 0x8) 0 (pick (ltb (status / 16) 0xF) (dataLength status) 0)
+
 -- document 01: 80..EF set the running status before their data is read; 8 data too short, before 9 a data byte with bit 7 set
 unfoldable pub readOne : ℕ → ℕ → List ℕ → Reading (Taken RawEvent)
 readOne status delta [] = refused 8 status

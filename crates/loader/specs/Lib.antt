@@ -1,0 +1,2 @@
+-- What the exported entries answer, in plain numbers.
+pub mod Entry

@@ -1,0 +1,39 @@
+-- A meta message read at a place, from its type byte on. Document 01, "Bytes of an event": a type, and a payload.
+use mathlib.Core.List.{List, [], _∷_}
+use Prim.Native.Nat.{ℕ, _+_}
+use lib.ListN.{length, drop}
+use Rattle.smf.specs.Answer.{Answer, gives, refuses, andThen, Rules}
+use Rattle.smf.specs.Payload.{Payload, readPayload}
+use Rattle.smf.specs.Place.{Span, placeOf}
+use Rattle.smf.specs.Kind.{Meta, calledMeta}
+use Rattle.smf.specs.Event.{mapMeta, spanBefore, bytesOf}
+
+-- a meta message that was read, and the bytes after it
+pub record MetaTaken : Type 0 where
+  pub message : Meta (List ℕ)
+  pub rest : List ℕ
+
+abbrev pub metaNamed : Rules → ℕ → Payload → Answer MetaTaken
+metaNamed rules t p = andThen (calledMeta rules t (p .bytes)) (λ m. gives (record { message = m; rest = p .rest }))
+
+-- the meta message that the bytes begin with; 10 where no type byte stands
+unfoldable pub readMetaMessage : Rules → List ℕ → Answer MetaTaken
+readMetaMessage rules [] = refuses 10
+readMetaMessage rules (t ∷ s) = andThen (readPayload rules s) (metaNamed rules t)
+
+-- the same at a place: its payload as start and length in the bytes lent, and the place after it
+pub record MetaAt : Type 0 where
+  pub message : Meta Span
+  pub next : ℕ
+
+abbrev pub metaPlaced : List ℕ → ℕ → MetaTaken → MetaAt
+metaPlaced s at t = record { message = mapMeta (spanBefore (placeOf s at (t .rest))) (t .message); next = placeOf s at (t .rest) }
+
+unfoldable pub metaAt : Rules → List ℕ → ℕ → Answer MetaAt
+metaAt rules s at = andThen (readMetaMessage rules (drop at s)) (λ t. gives (metaPlaced s at t))
+
+-- what a payload of the bytes lent is called under a type
+unfoldable pub calledAt : Rules → List ℕ → ℕ → Span → Answer MetaAt
+calledAt rules s t span =
+    andThen (calledMeta rules t (bytesOf s span))
+    (λ m. gives (record { message = mapMeta (λ p. span) m; next = span .start + span .length }))

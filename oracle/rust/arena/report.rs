@@ -1,0 +1,96 @@
+//! What was compared of one exported entry: how often, with which answers, and what differs.
+
+use std::{collections::BTreeMap, fmt};
+
+/// One more than the highest number of a refusal.
+const NUMBERS: usize = 24;
+
+pub struct Entry {
+    name: &'static str,
+    /// The answers that have to occur, or the comparison has not seen what it is for.
+    due: &'static [u8],
+    /// How often the Rust gave each answer: 0 is accepted.
+    answers: [u64; NUMBERS],
+    /// By the Rust's answer and the port's: what differs.
+    differences: BTreeMap<(u8, u8), Difference>,
+}
+
+struct Difference {
+    count: u64,
+    /// The smallest input so far, with both answers.
+    size: u64,
+    shown: String,
+}
+
+impl Entry {
+    pub fn new(name: &'static str, due: &'static [u8]) -> Entry {
+        Entry { name, due, answers: [0; NUMBERS], differences: BTreeMap::new() }
+    }
+
+    /// Compares the Rust's answer with the port's, each with all that came with it.
+    pub fn compare<T: PartialEq + fmt::Debug>(
+        &mut self,
+        rust: (u8, T),
+        port: (u8, T),
+        size: usize,
+        input: impl FnOnce() -> String,
+    ) {
+        self.answers[rust.0 as usize] += 1;
+        if rust != port {
+            let first = Difference { count: 0, size: u64::MAX, shown: String::new() };
+            let so_far = self.differences.entry((rust.0, port.0)).or_insert(first);
+            so_far.count += 1;
+            if (size as u64) < so_far.size {
+                so_far.size = size as u64;
+                so_far.shown = format!("{}\n      the Rust: {:?}\n      the port: {:?}", input(), rust, port);
+            }
+        }
+    }
+
+    pub fn compared(&self) -> u64 {
+        self.answers.iter().sum()
+    }
+
+    pub fn differ(&self) -> u64 {
+        self.differences.values().map(|difference| difference.count).sum()
+    }
+
+    /// Prints what was compared, and answers whether all is well.
+    pub fn print(&self) -> bool {
+        println!("  {}: {} compared, {} differ", self.name, grouped(self.compared()), grouped(self.differ()));
+        print!("    accepted: {}", grouped(self.answers[0]));
+        for (number, count) in self.answers.iter().enumerate().skip(1).filter(|answer| *answer.1 > 0) {
+            print!("; refused with {}: {}", number, grouped(*count));
+        }
+        println!();
+        for ((rust, port), it) in &self.differences {
+            println!("    DIFFERS {} times, the Rust {}, the port {}; smallest input:", grouped(it.count), rust, port);
+            println!("      {}", it.shown);
+        }
+        let missed: Vec<_> = self.due.iter().filter(|number| self.answers[**number as usize] == 0).collect();
+        missed.iter().for_each(|number| println!("    NEVER OCCURRED: {}", number));
+        self.differences.is_empty() && missed.is_empty()
+    }
+}
+
+/// A number with its digits in threes.
+pub fn grouped(number: u64) -> String {
+    match number {
+        0..=999 => number.to_string(),
+        _ => format!("{},{:03}", grouped(number / 1000), number % 1000),
+    }
+}
+
+/// Bytes as they are shown: the first of them, and how many there are.
+#[derive(PartialEq)]
+pub struct Bytes<'a>(pub &'a [u8]);
+
+impl fmt::Debug for Bytes<'_> {
+    fn fmt(&self, f: &mut fmt::Formatter) -> fmt::Result {
+        write!(f, "{} bytes [", self.0.len())?;
+        for (i, byte) in self.0.iter().take(24).enumerate() {
+            write!(f, "{}{:02X}", if i > 0 { " " } else { "" }, byte)?;
+        }
+        write!(f, "{}]", if self.0.len() > 24 { " .." } else { "" })
+    }
+}
