@@ -62,6 +62,15 @@ then-alike f f′ (refuses n) a′ h k = tt
 pub said-of : {A : Type 0} (P : Answer A → Type 0) {a : Answer A} {x : A} → P a → a ≡ gives x → P (gives x)
 said-of P p e = subst P e p
 
+-- what is asked of the value that an answer gives
+abbrev pub Gives : {A : Type 0} → (A → Type 0) → Answer A → Type 0
+Gives P (gives a) = P a
+Gives P (refuses n) = Unit {0}
+
+pub then-gives : {A B : Type 0} (P : A → Type 0) (Q : B → Type 0) (f : A → Answer B) (a : Answer A) → Gives P a → ((x : A) → P x → Gives Q (f x)) → Gives Q (andThen a f)
+then-gives P Q f (gives x) p k = k x p
+then-gives P Q f (refuses n) p k = tt
+
 pub said-refused : {A : Type 0} (P : Answer A → Type 0) {a : Answer A} {n : ℕ} → P a → a ≡ refuses n → P (refuses n)
 said-refused P p e = subst P e p
 

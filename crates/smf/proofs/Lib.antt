@@ -9,6 +9,12 @@ pub mod Bend
 pub mod Smpte
 pub mod Header
 pub mod Signed
+pub mod Ends
+pub mod Running
+pub mod Wire
+pub mod Kind
+pub mod Named
+pub mod Event
 pub mod MetaAt
 pub mod CalledAt
 pub mod Table

@@ -7,7 +7,7 @@ use Prim.Native.Nat.{ℕ, _+_, _*_, _/_, _%_, _<_, _≤_}
 use native.Mathlib.Nat.{mul-le-mul-right, mod-eq-of-lt}
 use native.Mathlib.Omega.{arith}
 use lib.Dec.{ltb, eqb}
-use lib.ListN.{getD}
+use lib.ListN.{length, getD}
 use borrow.Author.Tests.{ltb-true, ltb-false, lt-ltb, le-ltb, eqb-true, eqb-false, eq-eqb, ne-eqb}
 use Rattle.smf.specs.Answer.{pick, Answer, gives}
 use Rattle.smf.specs.Smpte.{isRate, rateOfCode, codeOfRate, Time, time, isTime, toTime, timeOf, timeBytes, seconds, frames, subframes, position, earlier}
@@ -96,6 +96,10 @@ is-time t r =
 
 pub out-of-range : (t : Time) → (InRange t → ⊥) → isTime t ≡ false
 out-of-range t not = by-test (isTime t) (λ is. absurd (not (in-range t is))) (λ is. is)
+
+pub time-length : (t : Time) → length (timeBytes t) ≡ 5
+unfolding timeBytes
+time-length t = refl
 
 -- the time that five bytes of a list say
 abbrev pub timeIn : List ℕ → Answer Time

@@ -113,7 +113,7 @@ metaFits (smpteOffset time) = isTime time
 metaFits (timeSignature a b c d) = ltb a 256 && ltb b 256 && ltb c 256 && ltb d 256
 metaFits (keySignature sharps minor) = ltb (mag sharps) 128
 metaFits (sequencerSpecific p) = true
-metaFits (unknown t p) = ltb t 256
+metaFits (unknown t p) = true
 
 unfoldable pub kindFits : {P : Type 0} → Kind P → Bool
 kindFits (midi channel message) = ltb channel 16 && messageFits message

@@ -1,0 +1,3 @@
+-- What is claimed: document 01's statements, each as a type that proofs/ has an element of.
+pub mod Worked
+pub mod Shortest
