@@ -1,11 +1,16 @@
--- A track event as the definitions take it.
+-- A track event as the definitions take it, and what reading one answers.
+use Prim.Native.Nat.{ℕ}
 use Rattle.smf.specs.Place.{Span}
+use Rattle.smf.specs.Wire.{Reading, reads, refused}
 use Rattle.smf.specs.Kind as kind
 use Rattle.smf.specs.Event as smf
+use Rattle.number.specs.Refusal.{numberOf}
 use Rattle.message.specs.Message.{messageOf, metaOf, spanOf}
 use Rattle.event.specs.declared.track_event.TrackEventKind.{TrackEventKind}
 use Rattle.event.specs.declared.track_event.TrackEventKind.the-variants as track
 use Rattle.event.specs.declared.track_event.TrackEvent.{TrackEvent}
+use Rattle.event.specs.declared.read.ReadEvent.{ReadEvent}
+use Rattle.event.specs.declared.read.ReadEvent.the-variants as read
 
 abbrev pub kindOf : TrackEventKind → kind.Kind Span
 kindOf (track.Midi channel message) = kind.midi (channel .0) (messageOf message)
@@ -15,3 +20,11 @@ kindOf (track.Meta m) = kind.meta (metaOf m)
 
 abbrev pub eventOf : TrackEvent → smf.Event Span
 eventOf e = smf.event (e .delta .0) (kindOf (e .kind))
+
+-- an event, the bytes used, and the running status after it
+abbrev pub eventUsed : smf.Event Span → ℕ → ℕ → Reading smf.EventAt
+eventUsed e used running = reads (record { event = e; used = used; running = running })
+
+abbrev pub eventRead : ReadEvent → Reading smf.EventAt
+eventRead (read.Event e) = eventUsed (eventOf (e .event)) (e .used) (e .running .status)
+eventRead (read.Refused n) = refused (numberOf (n .refusal)) (n .running .status)

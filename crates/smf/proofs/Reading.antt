@@ -39,6 +39,9 @@ pub one-or-two : (st : ℕ) → (dataLength st ≡ 1) ⊎ (dataLength st ≡ 2)
 unfolding dataLength
 one-or-two st = by-test (eqb (st / 16) 0xC) (λ t. inl (rw t)) (λ t. by-test (eqb (st / 16) 0xD) (λ u. inl (rw (t, u))) (λ u. inr (rw (t, u))))
 
+pub data-some : (st : ℕ) → 0 < dataLength st
+data-some st = ⊎-elim (λ n. omega arith) (λ n. omega arith) (one-or-two st)
+
 module _ (rules : Rules) (s : List ℕ) (start at st delta : ℕ) (site : Sited s start at) where
   abbrev channelled : Reading EventAt
   channelled = placed s start (nameRaw rules (readChannel st delta (drop at s)))
@@ -202,7 +205,7 @@ module _ (rules : Rules) (s : List ℕ) (start at delta : ℕ) (site : Sited s s
   typedly = placed s start (nameRaw rules (readMeta rules delta (drop at s)))
 
   -- by what the message's reader answered at the place
-  abbrev Answers : Answer MetaAt → Type 0
+  abbrev pub Answers : Answer MetaAt → Type 0
   Answers (gives m) = (told (event delta (meta (m .message))) (m .next - start) 0 ≡ typedly) × (start ≤ m .next)
   Answers (refuses n) = refused n 0 ≡ typedly
 

@@ -1,0 +1,44 @@
+-- `meta` meets its contract.
+use mathlib.Core.Path.{_≡_, _∙_, sym, ap}
+use native.Mathlib.Omega.{arith}
+use denote.Ref.{now}
+use Rattle.smf.proofs.Answer.{said-of, said-refused}
+use Rattle.smf.proofs.Reading.{Answers, meta-answers}
+use Rattle.message.specs.Message.{metaRead}
+use Rattle.number.specs.Rules.{rulesOf}
+use borrow.Author.Needs.{needs}
+use Rattle.event.proofs.read.meta.Statement.{statement}
+use Rattle.event.proofs.read.meta.Tie as tie
+
+read-requires : tie.Need-read-requires
+read-requires c κs = search needs
+
+enum-known-refusal : tie.Need-enum-known-refusal
+enum-known-refusal c = search needs
+
+refused-requires : tie.Need-refused-requires
+refused-requires c κs = search needs
+
+enum-known-m : tie.Need-enum-known-m
+enum-known-m c = search needs
+
+event-requires : tie.Need-event-requires
+event-requires c κs = said-of (Answers (rulesOf (c .before .before .before .before .before .args .rules)) (now (c .before .before .before .before .before .args .raw)) (c .before .before .before .before .before .args .begun .start) (c .before .before .before .before .before .args .at) (c .before .before .before .before .before .args .begun .delta .0) (c .before .before .before .before .before .pre)) (meta-answers (rulesOf (c .before .before .before .before .before .args .rules)) (now (c .before .before .before .before .before .args .raw)) (c .before .before .before .before .before .args .begun .start) (c .before .before .before .before .before .args .at) (c .before .before .before .before .before .args .begun .delta .0) (c .before .before .before .before .before .pre)) (sym (c .before .before .before .read .ensures) ∙ ap metaRead (c .before .m .given .1)) .1
+
+returns : tie.Need-returns
+returns c = c .refused .ensures ∙ said-refused (Answers (rulesOf (c .before .before .before .before .before .before .args .rules)) (now (c .before .before .before .before .before .before .args .raw)) (c .before .before .before .before .before .before .args .begun .start) (c .before .before .before .before .before .before .args .at) (c .before .before .before .before .before .before .args .begun .delta .0) (c .before .before .before .before .before .before .pre)) (meta-answers (rulesOf (c .before .before .before .before .before .before .args .rules)) (now (c .before .before .before .before .before .before .args .raw)) (c .before .before .before .before .before .before .args .begun .start) (c .before .before .before .before .before .before .args .at) (c .before .before .before .before .before .before .args .begun .delta .0) (c .before .before .before .before .before .before .pre)) (sym (c .before .before .before .before .read .ensures) ∙ ap metaRead (c .before .before .refusal .given .1))
+
+returns-2 : tie.Need-returns-2
+returns-2 c = c .event .ensures ∙ said-of (Answers (rulesOf (c .before .before .before .before .before .before .args .rules)) (now (c .before .before .before .before .before .before .args .raw)) (c .before .before .before .before .before .before .args .begun .start) (c .before .before .before .before .before .before .args .at) (c .before .before .before .before .before .before .args .begun .delta .0) (c .before .before .before .before .before .before .pre)) (meta-answers (rulesOf (c .before .before .before .before .before .before .args .rules)) (now (c .before .before .before .before .before .before .args .raw)) (c .before .before .before .before .before .before .args .begun .start) (c .before .before .before .before .before .before .args .at) (c .before .before .before .before .before .before .args .begun .delta .0) (c .before .before .before .before .before .before .pre)) (sym (c .before .before .before .before .read .ensures) ∙ ap metaRead (c .before .before .m .given .1)) .0
+
+pub meta-spec : {M : Type 1} → statement M
+meta-spec =
+    tie.close
+    (tie.spec
+    read-requires
+    enum-known-refusal
+    refused-requires
+    enum-known-m
+    event-requires
+    returns
+    returns-2)
