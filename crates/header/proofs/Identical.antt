@@ -1,11 +1,11 @@
 -- No two values and no two answers of this crate say the same.
 use mathlib.Core.Path.{_≡_, refl, ap}
-use mathlib.Core.List.{List, [], _∷_}
+use mathlib.Core.List.{List}
 use Prim.Native.Nat.{ℕ}
 use lib.Dec.{eqb}
 use lib.Ieee.{Float}
 use lib.ListN.{getD}
-use Rattle.smf.specs.Answer.{pick, Answer, gives, refuses}
+use Rattle.smf.specs.Answer.{pick, Answer}
 use Rattle.smf.specs.Header as smf
 use Rattle.smf.specs.Smpte.{Time}
 use Rattle.smf.proofs.Answer.{injective, answered}

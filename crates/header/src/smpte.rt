@@ -138,10 +138,9 @@ impl SmpteTime {
         if !self.in_range() {
             return AskedSecond::Refused(Refusal::SmpteTime);
         }
-        AskedSecond::Is(
-            self.second as f32
-                + ((self.frame as f32 + self.subframe as f32 / 100.0) / fps.as_f32()),
-        )
+        let seconds = self.second as f32
+            + ((self.frame as f32 + self.subframe as f32 / 100.0) / fps.as_f32());
+        AskedSecond::Is(seconds)
     }
 
     // The place in the day, in subframes.
@@ -154,7 +153,8 @@ impl SmpteTime {
         }
         let seconds = 3600 * self.hour as u32 + 60 * self.minute as u32 + self.second as u32;
         let frames = seconds * fps.as_int() as u32 + self.frame as u32;
-        AskedPosition::Is(frames * 100 + self.subframe as u32)
+        let subframes = frames * 100 + self.subframe as u32;
+        AskedPosition::Is(subframes)
     }
 
     // Hour and rate code share the first byte.

@@ -57,7 +57,9 @@ impl Timing {
                 if 32767 < ticks {
                     return EncodedTiming::Refused(Refusal::AboveWidth);
                 }
-                EncodedTiming::Bytes((ticks / 256) as u8, (ticks % 256) as u8)
+                let high = (ticks / 256) as u8;
+                let low = (ticks % 256) as u8;
+                EncodedTiming::Bytes(high, low)
             }
             Timing::Timecode(fps, subframe) => {
                 let minus = -(fps.as_int() as i8);

@@ -16,7 +16,7 @@ use number::varlen::ReadNumber;
 use number::varlen::ReadSlice;
 use number::varlen::Written;
 
-pub mod bend;
+pub mod bends;
 pub mod fields;
 pub mod smpte;
 

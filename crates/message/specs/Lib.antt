@@ -1,3 +1,2 @@
--- What the answers of this crate say, in the paper's numbers.
-pub mod Bend
+-- What the values and the answers of this crate say, in the paper's terms.
 pub mod Message

@@ -1,7 +1,10 @@
 -- A message as the definitions take it.
 use Prim.Native.Nat.{ℕ}
+use Rattle.smf.specs.Answer.{Answer, gives, refuses}
 use Rattle.smf.specs.Place.{Span}
 use Rattle.smf.specs.Kind as kind
+use Rattle.smf.specs.MetaAt.{MetaAt}
+use Rattle.number.specs.Refusal.{numberOf}
 use Rattle.number.specs.declared.rules.Range.{Range}
 use Rattle.header.specs.Smpte.{smpteTimeOf}
 use Rattle.message.specs.declared.midi.MidiMessage.{MidiMessage}
@@ -10,6 +13,8 @@ use Rattle.message.specs.declared.meta.OptionU16.{OptionU16}
 use Rattle.message.specs.declared.meta.OptionU16.the-variants as option
 use Rattle.message.specs.declared.meta.MetaMessage.{MetaMessage}
 use Rattle.message.specs.declared.meta.MetaMessage.the-variants as meta
+use Rattle.message.specs.declared.meta.ReadMeta.{ReadMeta}
+use Rattle.message.specs.declared.meta.ReadMeta.the-variants as read
 
 abbrev pub messageOf : MidiMessage → kind.Message
 messageOf (midi.NoteOff key vel) = kind.noteOff (key .0) (vel .0)
@@ -47,3 +52,11 @@ metaOf (meta.TimeSignature a b c d) = kind.timeSignature a b c d
 metaOf (meta.KeySignature sharps minor) = kind.keySignature sharps minor
 metaOf (meta.SequencerSpecific r) = kind.sequencerSpecific (spanOf r)
 metaOf (meta.Unknown t r) = kind.unknown t (spanOf r)
+
+-- a meta message and the place after it
+abbrev pub metaPlaced : MetaMessage → ℕ → MetaAt
+metaPlaced m next = record { message = metaOf m; next = next }
+
+abbrev pub metaRead : ReadMeta → Answer MetaAt
+metaRead (read.Message m) = gives (metaPlaced (m .message) (m .next))
+metaRead (read.Refused n) = refuses (numberOf n)

@@ -1,4 +1,3 @@
-// Modules 4 and 5 of document 01: channel messages, bends and meta messages.
-pub mod bend;
+// Modules 4 and 5 of document 01: channel messages and meta messages.
 pub mod meta;
 pub mod midi;

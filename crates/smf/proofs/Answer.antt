@@ -20,6 +20,10 @@ pub pick-test : {A : Type 0} (P : A → Type 0) (t : Bool) {x y : A} → (t ≡ 
 pick-test P true p q = p refl
 pick-test P false p q = q refl
 
+pub pick-both : {A : Type 0} (P : A → Type 0) (t : Bool) {x y : A} → P x → P y → P (pick t x y)
+pick-both P true p q = p
+pick-both P false p q = q
+
 -- both of two tests that hold together
 pub both : (a b : Bool) → (a && b) ≡ true → (a ≡ true) × (b ≡ true)
 both true b e = (refl, e)
@@ -57,6 +61,9 @@ then-alike f f′ (refuses n) a′ h k = tt
 -- what is said of an answer holds of the value that it gives
 pub said-of : {A : Type 0} (P : Answer A → Type 0) {a : Answer A} {x : A} → P a → a ≡ gives x → P (gives x)
 said-of P p e = subst P e p
+
+pub said-refused : {A : Type 0} (P : Answer A → Type 0) {a : Answer A} {n : ℕ} → P a → a ≡ refuses n → P (refuses n)
+said-refused P p e = subst P e p
 
 -- the way back of an answer: what its value makes, or what its refusal's number makes
 abbrev pub answered : {A B : Type 0} → (A → B) → (ℕ → B) → Answer A → B

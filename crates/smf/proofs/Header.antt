@@ -11,7 +11,7 @@ use Rattle.smf.specs.Answer.{Answer, gives, refuses, andThen}
 use Rattle.smf.specs.Smpte.{isRate, toRate}
 use Rattle.smf.specs.Header.{readField, word, twoBytes, isFormat, toFormat, readFormat, formatBytes, Timing, metrical, timecode, isTiming, timingFrom, readTiming, timingBytes, encodeTiming}
 use Rattle.smf.proofs.Answer.{by-test, by-lt, both, given}
-use Rattle.smf.proofs.Smpte.{by-rate}
+use Rattle.smf.proofs.Smpte.{rate-small}
 
 -- a field by its bytes' places
 pub field-short : {A : Type 0} (of : ℕ → ℕ → Answer A) (bytes : List ℕ) → length bytes < 2 → readField of bytes ≡ refuses 17
@@ -20,14 +20,21 @@ field-short of [] h = refl
 field-short of (high ∷ []) h = refl
 field-short of (high ∷ low ∷ more) h = absurd (omega arith)
 
-pub field-whole : {A : Type 0} (of : ℕ → ℕ → Answer A) (bytes : List ℕ) → 2 ≤ length bytes → readField of bytes ≡ of (getD bytes 0 0) (getD bytes 1 0)
+pub field-whole :
+    {A : Type 0} (of : ℕ → ℕ → Answer A) (bytes : List ℕ) →
+    2 ≤ length bytes →
+    readField of bytes ≡ of (getD bytes 0 0) (getD bytes 1 0)
 unfolding readField
 field-whole of [] h = absurd (omega arith)
 field-whole of (high ∷ []) h = absurd (omega arith)
 field-whole of (high ∷ low ∷ more) h = refl
 
 -- a format by its number
-pub format-whole : (bytes : List ℕ) {x : ℕ} → 2 ≤ length bytes → x ≡ word (getD bytes 0 0) (getD bytes 1 0) → readFormat bytes ≡ toFormat x
+pub format-whole :
+    (bytes : List ℕ) {x : ℕ} →
+    2 ≤ length bytes →
+    x ≡ word (getD bytes 0 0) (getD bytes 1 0) →
+    readFormat bytes ≡ toFormat x
 unfolding readFormat
 format-whole bytes h e = field-whole _ bytes h ∙ ap toFormat (sym e)
 
@@ -60,7 +67,11 @@ pub record FormatRead (high low format : ℕ) : Type 0 where
   pub legal : isFormat format ≡ true
   pub bytes : formatBytes format ≡ high ∷ low ∷ []
 
-pub format-read : (high low : ℕ) (more : List ℕ) {format : ℕ} → low < 256 → readFormat (high ∷ low ∷ more) ≡ gives format → FormatRead high low format
+pub format-read :
+    (high low : ℕ) (more : List ℕ) {format : ℕ} →
+    low < 256 →
+    readFormat (high ∷ low ∷ more) ≡ gives format →
+    FormatRead high low format
 unfolding readField readFormat toFormat formatBytes
 format-read high low more h e =
     let g = given (isFormat (word high low)) (word high low) 15 e in
@@ -75,7 +86,11 @@ pub ticks-above : (ticks : ℕ) → 32768 ≤ ticks → encodeTiming (metrical t
 unfolding encodeTiming isTiming
 ticks-above ticks h = rw (le-ltb ticks 32768 h)
 
-pub timecode-written : (rate subframe : ℕ) → isRate rate ≡ true → subframe < 256 → encodeTiming (timecode rate subframe) ≡ gives ((256 - rate) ∷ subframe ∷ [])
+pub timecode-written :
+    (rate subframe : ℕ) →
+    isRate rate ≡ true →
+    subframe < 256 →
+    encodeTiming (timecode rate subframe) ≡ gives ((256 - rate) ∷ subframe ∷ [])
 unfolding encodeTiming isTiming timingBytes
 timecode-written rate subframe is h = rw (is, lt-ltb subframe 256 h)
 
@@ -87,7 +102,7 @@ timing-reads-back (metrical ticks) more is =
     rw (lt-ltb (ticks / 256) 128 small, word-back ticks)
 timing-reads-back (timecode rate subframe) more is =
     let rated = both (isRate rate) (ltb subframe 256) is .0 in
-    let small : rate ≤ 30 = by-rate (λ (r : ℕ). r ≤ 30) (omega arith) (omega arith) (omega arith) (omega arith) rate rated in
+    let small = rate-small rate rated in
     let back : 256 - (256 - rate) ≡ rate = omega arith in
     rw (le-ltb (256 - rate) 128 (omega arith), back, rated)
 

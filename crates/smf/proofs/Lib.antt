@@ -9,3 +9,7 @@ pub mod Bend
 pub mod Smpte
 pub mod Header
 pub mod Signed
+pub mod MetaAt
+pub mod CalledAt
+pub mod Table
+pub mod Reading

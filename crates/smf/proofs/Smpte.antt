@@ -22,6 +22,10 @@ by-rate P p24 p25 p29 p30 rate is =
     (λ n25. by-test (eqb rate 29) (λ e. subst P (sym (eqb-true rate 29 e)) p29)
     (λ n29. subst P (sym (eqb-true rate 30 (rw (n24, n25, n29) at is))) p30)))
 
+-- a rate's number is small
+pub rate-small : (rate : ℕ) → isRate rate ≡ true → rate ≤ 30
+rate-small = by-rate (λ (rate : ℕ). rate ≤ 30) (omega arith) (omega arith) (omega arith) (omega arith)
+
 -- every code has a rate
 pub code-rated : (code : ℕ) → isRate (rateOfCode code) ≡ true
 unfolding isRate rateOfCode
@@ -60,6 +64,7 @@ pub record InRange (t : Time) : Type 0 where
   pub frame-below : t .frame < t .rate
   pub subframe-below : t .subframe < 100
 
+-- a legal time is in its ranges, and a time in its ranges is legal
 pub in-range : (t : Time) → isTime t ≡ true → InRange t
 unfolding isTime
 in-range t e0 =
@@ -68,11 +73,29 @@ in-range t e0 =
     let e3 = both _ _ (e2 .0) in
     let e4 = both _ _ (e3 .0) in
     let e5 = both _ _ (e4 .0) in
-    record { rated = e5 .0; hour-below = ltb-true _ _ (e5 .1); minute-below = ltb-true _ _ (e4 .1); second-below = ltb-true _ _ (e3 .1); frame-below = ltb-true _ _ (e2 .1); subframe-below = ltb-true _ _ (e1 .1) }
+    record {
+      rated = e5 .0;
+      hour-below = ltb-true _ _ (e5 .1);
+      minute-below = ltb-true _ _ (e4 .1);
+      second-below = ltb-true _ _ (e3 .1);
+      frame-below = ltb-true _ _ (e2 .1);
+      subframe-below = ltb-true _ _ (e1 .1);
+    }
 
 pub is-time : (t : Time) → InRange t → isTime t ≡ true
 unfolding isTime
-is-time t r = rw (r .rated, lt-ltb _ _ (r .hour-below), lt-ltb _ _ (r .minute-below), lt-ltb _ _ (r .second-below), lt-ltb _ _ (r .frame-below), lt-ltb _ _ (r .subframe-below))
+is-time t r =
+    rw (
+      r .rated,
+      lt-ltb _ _ (r .hour-below),
+      lt-ltb _ _ (r .minute-below),
+      lt-ltb _ _ (r .second-below),
+      lt-ltb _ _ (r .frame-below),
+      lt-ltb _ _ (r .subframe-below),
+    )
+
+pub out-of-range : (t : Time) → (InRange t → ⊥) → isTime t ≡ false
+out-of-range t not = by-test (isTime t) (λ is. absurd (not (in-range t is))) (λ is. is)
 
 -- the time that five bytes of a list say
 abbrev pub timeIn : List ℕ → Answer Time
@@ -93,12 +116,16 @@ pub record TimeRead (first minute second frame subframe : ℕ) (t : Time) : Type
   pub legal : isTime t ≡ true
   pub bytes : timeBytes t ≡ (first % 128) ∷ minute ∷ second ∷ frame ∷ subframe ∷ []
 
-pub time-read : (first minute second frame subframe : ℕ) {t : Time} → timeOf first minute second frame subframe ≡ gives t → TimeRead first minute second frame subframe t
+pub time-read :
+    (first minute second frame subframe : ℕ) {t : Time} →
+    timeOf first minute second frame subframe ≡ gives t →
+    TimeRead first minute second frame subframe t
 unfolding timeOf toTime timeBytes
 time-read first minute second frame subframe {t} e =
     let s = time (first % 32) minute second frame subframe (rateOfCode (first / 32 % 4)) in
     let g = given (isTime s) s 13 e in
-    let head : codeOfRate (rateOfCode (first / 32 % 4)) * 32 + first % 32 ≡ first % 128 = rw (code-back (first / 32 % 4) (omega arith)) (omega arith) in
+    let head : codeOfRate (rateOfCode (first / 32 % 4)) * 32 + first % 32 ≡ first % 128 =
+    rw (code-back (first / 32 % 4) (omega arith)) (omega arith) in
     subst (TimeRead first minute second frame subframe) (g .1)
     (record { legal = g .0; bytes = rw head })
 
@@ -114,7 +141,7 @@ seconds-below t r = omega (arith, r)
 pub frames-below : (t : Time) → InRange t → frames t < 2592000
 unfolding frames
 frames-below t r =
-    let small : t .rate ≤ 30 = by-rate (λ (rate : ℕ). rate ≤ 30) (omega arith) (omega arith) (omega arith) (omega arith) (t .rate) (r .rated) in
+    let small = rate-small (t .rate) (r .rated) in
     omega (arith, higher (t .rate) (seconds t) 86400 (t .frame) 0 (seconds-below t r) (r .frame-below))
 
 -- a legal time in an earlier second or frame has a lower position than any time of its rate in a later one
@@ -125,17 +152,30 @@ module _ (s t : Time) (is : InRange s) (one : s .rate ≡ t .rate) where
 
   by-seconds : seconds s < seconds t → subframes s < subframes t
   unfolding frames
-  by-seconds h = by-frames (subst (λ (n : ℕ). frames s < seconds t * n + t .frame) one (higher (s .rate) (seconds s) (seconds t) (s .frame) (t .frame) h (is .frame-below)))
+  by-seconds h =
+      by-frames
+      (subst (λ (n : ℕ). frames s < seconds t * n + t .frame) one
+      (higher (s .rate) (seconds s) (seconds t) (s .frame) (t .frame) h (is .frame-below)))
 
 -- a number decides the order of two positions where it differs, and leaves it to the rest where it does not
-decides : (a b : ℕ) {p q : ℕ} {rest : Bool} → (a < b → p < q) → (b < a → q < p) → (a ≡ b → ltb p q ≡ rest) → ltb p q ≡ pick (eqb a b) rest (ltb a b)
+decides :
+    (a b : ℕ) {p q : ℕ} {rest : Bool} →
+    (a < b → p < q) →
+    (b < a → q < p) →
+    (a ≡ b → ltb p q ≡ rest) →
+    ltb p q ≡ pick (eqb a b) rest (ltb a b)
 decides a b {p} {q} less more same =
     by-test (eqb a b) (λ e. rw e (same (eqb-true a b e)))
     (λ n. by-test (ltb a b) (λ e. rw (n, e) (lt-ltb p q (less (ltb-true a b e))))
     (λ e. rw (n, e) (le-ltb p q (omega (arith, more (omega (arith, ltb-false a b e, eqb-false a b n)))))))
 
 -- positions of legal times of one rate are ordered as the times are
-pub positions-ordered : (s t : Time) → isTime s ≡ true → isTime t ≡ true → s .rate ≡ t .rate → ltb (subframes s) (subframes t) ≡ earlier s t
+pub positions-ordered :
+    (s t : Time) →
+    isTime s ≡ true →
+    isTime t ≡ true →
+    s .rate ≡ t .rate →
+    ltb (subframes s) (subframes t) ≡ earlier s t
 unfolding earlier seconds frames subframes
 positions-ordered s t es et one =
     let is = in-range s es in
@@ -153,7 +193,11 @@ positions-ordered s t es et one =
     (λ h. le-ltb (subframes s) (subframes t) (omega arith) ∙ sym (le-ltb _ _ h))))))
 
 -- where a field and what follows it decide neither way, the field is the same and what follows decides neither way
-undecided : (a b : ℕ) (x y : Bool) → pick (eqb a b) x (ltb a b) ≡ false → pick (eqb b a) y (ltb b a) ≡ false → (a ≡ b) × (x ≡ false) × (y ≡ false)
+undecided :
+    (a b : ℕ) (x y : Bool) →
+    pick (eqb a b) x (ltb a b) ≡ false →
+    pick (eqb b a) y (ltb b a) ≡ false →
+    (a ≡ b) × (x ≡ false) × (y ≡ false)
 undecided a b x y p q =
     by-test (eqb a b)
     (λ e. let same = eqb-true a b e in (same, rw e at p, rw (eq-eqb b a (sym same)) at q))
@@ -169,7 +213,8 @@ neither-earlier s t one p q =
     let minutes = undecided (s .minute) (t .minute) _ _ (hours .1) (hours .2) in
     let seconds = undecided (s .second) (t .second) _ _ (minutes .1) (minutes .2) in
     let frames = undecided (s .frame) (t .frame) _ _ (seconds .1) (seconds .2) in
-    let subframe : s .subframe ≡ t .subframe = omega (arith, ltb-false (s .subframe) (t .subframe) (frames .1), ltb-false (t .subframe) (s .subframe) (frames .2)) in
+    let subframe : s .subframe ≡ t .subframe =
+    omega (arith, ltb-false (s .subframe) (t .subframe) (frames .1), ltb-false (t .subframe) (s .subframe) (frames .2)) in
     rw (hours .0, minutes .0, seconds .0, frames .0, subframe, one)
 
 -- a legal time has a position
@@ -178,7 +223,12 @@ unfolding position
 position-legal t is = rw is
 
 -- legal times of one rate have the same position exactly when they are the same
-pub same-position : (s t : Time) → isTime s ≡ true → isTime t ≡ true → s .rate ≡ t .rate → (position s ≡ position t) ↔ (s ≡ t)
+pub same-position :
+    (s t : Time) →
+    isTime s ≡ true →
+    isTime t ≡ true →
+    s .rate ≡ t .rate →
+    (position s ≡ position t) ↔ (s ≡ t)
 same-position s t es et one = (
   λ e.
       let ps = position-legal s es in

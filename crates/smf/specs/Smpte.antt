@@ -35,7 +35,7 @@ abbrev pub time : ℕ → ℕ → ℕ → ℕ → ℕ → ℕ → Time
 time hour minute second frame subframe rate =
     record { hour = hour; minute = minute; second = second; frame = frame; subframe = subframe; rate = rate }
 
--- document 01: hour below 24, minute and second below 60, frame below the rate's number, subframe below 100
+-- document 01: one of the rates; hour below 24, minute and second below 60, frame below the rate's number, subframe below 100
 unfoldable pub isTime : Time → Bool
 isTime t =
     isRate (t .rate)

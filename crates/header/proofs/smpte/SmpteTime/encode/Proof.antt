@@ -6,11 +6,9 @@ use native.Mathlib.Nat.{mod-eq-of-lt}
 use native.Mathlib.Omega.{arith}
 use lib.Bits.{bitOr, or-shifted-r}
 use borrow.Author.Tests.{not-true, not-false}
-use Rattle.smf.specs.Smpte.{isTime, codeOfRate, timeBytes, encodeTime}
+use Rattle.smf.specs.Smpte.{Time, isTime, codeOfRate, timeBytes, encodeTime}
 use Rattle.smf.proofs.Smpte.{in-range, rate-coded}
-use Rattle.header.specs.Fps.{rateOf}
 use Rattle.header.specs.Smpte.{smpteTimeOf}
-use Rattle.header.proofs.Rates.{rated}
 use borrow.Author.Needs.{needs}
 use Rattle.header.proofs.smpte.SmpteTime.encode.Statement.{statement}
 use Rattle.header.proofs.smpte.SmpteTime.encode.Tie as tie
@@ -32,15 +30,18 @@ as-int-requires c κs = search needs
 legal : (c : tie.Else1) → isTime (smpteTimeOf (c .before .before .args .self)) ≡ true
 legal c = sym (c .before .in-range .ensures) ∙ not-false _ (c .if1 .left)
 
+-- the time that is written
+abbrev written : tie.After-as-int → Time
+written c = smpteTimeOf (c .before .before .before .before .args .self)
+
 -- the rate code behind the hour's five bits
-first : (c : tie.After-as-int) → bitOr (c .before .before .before .before .args .self .hour) (c .as-int .result * 32 % 256) ≡ codeOfRate (rateOf (c .before .before .before .before .args .self .fps)) * 32 + c .before .before .before .before .args .self .hour
+first : (c : tie.After-as-int) → bitOr (written c .hour) (c .as-int .result * 32 % 256) ≡ codeOfRate (written c .rate) * 32 + written c .hour
 first c =
-    let time = c .before .before .before .before .args .self in
-    let code : c .as-int .result ≡ codeOfRate (rateOf (time .fps)) = cc in
-    let small = rate-coded (rateOf (time .fps)) (rated (time .fps) .is) .small in
-    let hour = in-range (smpteTimeOf time) (legal (c .before .before)) .hour-below in
-    let fits : codeOfRate (rateOf (time .fps)) * 32 < 256 = omega arith in
-    rw (code, mod-eq-of-lt fits) (or-shifted-r (codeOfRate (rateOf (time .fps))) 5 (time .hour) (omega arith))
+    let code : c .as-int .result ≡ codeOfRate (written c .rate) = cc in
+    let ranges = in-range (written c) (legal (c .before .before)) in
+    let small = rate-coded (written c .rate) (ranges .rated) .small in
+    let fits : codeOfRate (written c .rate) * 32 < 256 = omega arith in
+    rw (code, mod-eq-of-lt fits) (or-shifted-r (codeOfRate (written c .rate)) 5 (written c .hour) (omega arith))
 
 returns-2 : tie.Need-returns-2
 unfolding encodeTime timeBytes

@@ -4,7 +4,7 @@ use mathlib.Core.Bool.{true}
 use Prim.Native.Nat.{_+_, _*_, _<_}
 use native.Mathlib.Omega.{arith}
 use borrow.Author.Tests.{not-true, not-false}
-use Rattle.smf.specs.Smpte.{isTime, seconds, frames, subframes, position}
+use Rattle.smf.specs.Smpte.{Time, isTime, seconds, frames, subframes, position}
 use Rattle.smf.proofs.Smpte.{in-range, frames-below}
 use Rattle.header.specs.Smpte.{smpteTimeOf}
 use borrow.Author.Needs.{needs}
@@ -49,12 +49,14 @@ as-int-requires c κs = search needs
 cast-frames : tie.Need-cast-frames
 cast-frames c = search needs
 
+-- the time whose position is asked
+abbrev asked : tie.After-as-int → Time
+asked c = smpteTimeOf (c .before .before .before .before .before .before .args .self)
+
 -- the frames that are counted
-below : (c : tie.After-as-int) → seconds (smpteTimeOf (c .before .before .before .before .before .before .args .self)) * c .as-int .result + c .before .before .before .before .before .before .args .self .frame < 2592000
+below : (c : tie.After-as-int) → seconds (asked c) * c .as-int .result + asked c .frame < 2592000
 unfolding frames
-below c =
-    let time = smpteTimeOf (c .before .before .before .before .before .before .args .self) in
-    rw (c .as-int .ensures) (frames-below time (in-range time (legal (c .before .before .before .before))))
+below c = rw (c .as-int .ensures) (frames-below (asked c) (in-range (asked c) (legal (c .before .before .before .before))))
 
 mul-frames : tie.Need-mul-frames
 unfolding seconds
@@ -67,16 +69,16 @@ add-frames : tie.Need-add-frames
 unfolding seconds
 add-frames c = record { fits = omega (arith, below (c .before)) }
 
-mul-t11 : tie.Need-mul-t11
+mul-subframes : tie.Need-mul-subframes
 unfolding seconds
-mul-t11 c = record { fits = omega (arith, below (c .before)) }
+mul-subframes c = record { fits = omega (arith, below (c .before)) }
 
-cast-t12 : tie.Need-cast-t12
-cast-t12 c = search needs
+cast-subframes : tie.Need-cast-subframes
+cast-subframes c = search needs
 
-add-t13 : tie.Need-add-t13
+add-subframes : tie.Need-add-subframes
 unfolding seconds
-add-t13 c = record { fits = omega (arith, below (c .before .before)) }
+add-subframes c = record { fits = omega (arith, below (c .before .before)) }
 
 returns-2 : tie.Need-returns-2
 unfolding position subframes frames seconds
@@ -100,7 +102,7 @@ position-spec =
     mul-frames
     cast-frames-2
     add-frames
-    mul-t11
-    cast-t12
-    add-t13
+    mul-subframes
+    cast-subframes
+    add-subframes
     returns-2)

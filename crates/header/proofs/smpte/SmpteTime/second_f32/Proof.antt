@@ -1,8 +1,11 @@
 -- `SmpteTime::second_f32` meets its contract, operation for operation.
-use mathlib.Core.Path.{sym, _∙_}
+use mathlib.Core.Path.{_≡_, sym, _∙_}
+use mathlib.Core.Bool.{true}
 use lib.Ieee.{ofBits, ofInt}
 use borrow.Author.Tests.{not-true, not-false}
+use Rattle.smf.specs.Smpte.{isTime}
 use Rattle.smf.specs.Seconds.{secondFloat, secondsOf}
+use Rattle.header.specs.Smpte.{smpteTimeOf}
 use borrow.Author.Needs.{needs}
 use Rattle.header.proofs.smpte.SmpteTime.second_f32.Statement.{statement}
 use Rattle.header.proofs.smpte.SmpteTime.second_f32.Tie as tie
@@ -14,21 +17,25 @@ returns : tie.Need-returns
 unfolding secondsOf
 returns c = rw (sym (c .before .in-range .ensures) ∙ not-true _ (c .if1 .taken))
 
-int-to-float-t6 : tie.Need-int-to-float-t6
-int-to-float-t6 c = search needs
+int-to-float-seconds : tie.Need-int-to-float-seconds
+int-to-float-seconds c = search needs
 
-int-to-float-t7 : tie.Need-int-to-float-t7
-int-to-float-t7 c = search needs
+int-to-float-seconds-2 : tie.Need-int-to-float-seconds-2
+int-to-float-seconds-2 c = search needs
 
-int-to-float-t8 : tie.Need-int-to-float-t8
-int-to-float-t8 c = search needs
+int-to-float-seconds-3 : tie.Need-int-to-float-seconds-3
+int-to-float-seconds-3 c = search needs
 
 as-f32-requires : tie.Need-as-f32-requires
 as-f32-requires c κs = search needs
 
+-- the time is legal
+legal : (c : tie.Else1) → isTime (smpteTimeOf (c .before .before .args .self)) ≡ true
+legal c = sym (c .before .in-range .ensures) ∙ not-false _ (c .if1 .left)
+
 returns-2 : tie.Need-returns-2
 unfolding secondsOf secondFloat ofBits ofInt
-returns-2 c = rw (sym (c .before .before .before .before .before .in-range .ensures) ∙ not-false _ (c .before .before .before .before .if1 .left), c .as-f32 .ensures)
+returns-2 c = rw (legal (c .before .before .before .before), c .as-f32 .ensures)
 
 pub second-f32-spec : {M : Type 1} → statement M
 second-f32-spec =
@@ -36,8 +43,8 @@ second-f32-spec =
     (tie.spec
     in-range-requires
     returns
-    int-to-float-t6
-    int-to-float-t7
-    int-to-float-t8
+    int-to-float-seconds
+    int-to-float-seconds-2
+    int-to-float-seconds-3
     as-f32-requires
     returns-2)

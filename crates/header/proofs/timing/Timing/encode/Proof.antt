@@ -24,11 +24,11 @@ returns c =
     let b = c .before .before .before in
     rw (b .self .given .1) (sym (ticks-above (b .self .given .0 .0 .0) (omega (arith, c .before .as-int .ensures))))
 
-cast-t11 : tie.Need-cast-t11
-cast-t11 c = search needs
+cast-high : tie.Need-cast-high
+cast-high c = search needs
 
-cast-t13 : tie.Need-cast-t13
-cast-t13 c = search needs
+cast-low : tie.Need-cast-low
+cast-low c = search needs
 
 enum-known-self-2 : tie.Need-enum-known-self-2
 enum-known-self-2 c = search needs
@@ -55,7 +55,8 @@ to-byte-requires c κs = search needs
 returns-2 : tie.Need-returns-2
 returns-2 c =
     let b = c .before .before .before in
-    rw (b .self .given .1, c .before .as-int .ensures) (sym (ticks-written (b .self .given .0 .0 .0) (omega (arith, c .before .as-int .ensures))))
+    rw (b .self .given .1, c .before .as-int .ensures)
+    (sym (ticks-written (b .self .given .0 .0 .0) (omega (arith, c .before .as-int .ensures))))
 
 -- the byte of minus the rate
 byte : (c : tie.After-to-byte) → c .to-byte .result ≡ 256 - rateOf (c .before .before .before .self2 .given .0 .0)
@@ -68,9 +69,9 @@ byte c =
 
 returns-3 : tie.Need-returns-3
 returns-3 c =
-    let b = c .before .before .before in
-    let told = b .self2 .given in
-    rw (told .1, byte c) (sym (timecode-written (rateOf (told .0 .0)) (told .0 .1 .0) (rated (told .0 .0) .is) (omega arith)))
+    let told = c .before .before .before .self2 .given in
+    rw (told .1, byte c)
+    (sym (timecode-written (rateOf (told .0 .0)) (told .0 .1 .0) (rated (told .0 .0) .is) (omega arith)))
 
 pub encode-spec : {M : Type 1} → statement M
 encode-spec =
@@ -79,8 +80,8 @@ encode-spec =
     enum-known-self
     as-int-requires
     returns
-    cast-t11
-    cast-t13
+    cast-high
+    cast-low
     enum-known-self-2
     as-int-requires-2
     cast-minus

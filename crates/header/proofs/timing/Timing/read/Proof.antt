@@ -1,6 +1,7 @@
 -- `Timing::read` meets its contract: 17 under two bytes; else the high byte decides between ticks and minus a rate.
 use mathlib.Core.Path.{_≡_, sym, ap, _∙_}
-use Prim.Native.Nat.{_-_}
+use mathlib.Core.List.{List}
+use Prim.Native.Nat.{ℕ, _-_}
 use native.Mathlib.Omega.{arith}
 use lib.IntN.{pos, negℤ, natAbs}
 use lib.ListN.{getD}
@@ -34,7 +35,9 @@ returns-2 : tie.Need-returns-2
 unfolding readTiming
 returns-2 c =
     let b = c .before .before .before .before in
-    sym (field-whole timingFrom (b .before .before .args .raw .now) (b .if1 .left) ∙ timing-ticks _ _ (c .before .if2 .taken) ∙ ap (λ x. gives (metrical x)) (sym (c .word .ensures)))
+    sym (field-whole timingFrom (b .before .before .args .raw .now) (b .if1 .left)
+    ∙ timing-ticks _ _ (c .before .if2 .taken)
+    ∙ ap (λ x. gives (metrical x)) (sym (c .word .ensures)))
 
 from-byte-requires : tie.Need-from-byte-requires
 from-byte-requires c κs = search needs
@@ -42,11 +45,14 @@ from-byte-requires c κs = search needs
 negated-requires : tie.Need-negated-requires
 negated-requires c κs = search needs
 
+-- the bytes that are read
+abbrev bytes : tie.After-negated → List ℕ
+bytes c = c .before .before .before .before .before .before .before .args .raw .now
+
 -- the rate that the high byte says
-minus : (c : tie.After-negated) → toZ w16 (ofZ w16 (c .negated .result)) ≡ pos (256 - getD (c .before .before .before .before .before .before .before .args .raw .now) 0 0)
+minus : (c : tie.After-negated) → toZ w16 (ofZ w16 (c .negated .result)) ≡ pos (256 - getD (bytes c) 0 0)
 minus c =
-    let b = c .before .before .before .before .before in
-    let high = getD (b .before .before .args .raw .now) 0 0 in
+    let high = getD (bytes c) 0 0 in
     toZ-ofZ {w = w16} (record { sfits = c .negated .ok })
     ∙ c .negated .ensures
     ∙ ap negℤ (toZ-ofZ {w = w8} (record { sfits = c .before .from-byte .ok }) ∙ c .before .from-byte .ensures)
@@ -65,13 +71,15 @@ enum-known-refusal : tie.Need-enum-known-refusal
 enum-known-refusal c = search needs
 
 -- what is read where the high byte says a rate
-told : (c : tie.After-from-int) → readTiming (c .before .before .before .before .before .before .before .before .args .raw .now) ≡ andThen (triedFps (c .from-int .result)) (λ rate. gives (timecode rate (getD (c .before .before .before .before .before .before .before .before .args .raw .now) 1 0)))
+told :
+    (c : tie.After-from-int) →
+    readTiming (bytes (c .before))
+    ≡ andThen (triedFps (c .from-int .result)) (λ rate. gives (timecode rate (getD (bytes (c .before)) 1 0)))
 unfolding readTiming
 told c =
-    let b = c .before .before .before .before .before .before in
-    field-whole timingFrom (b .before .before .args .raw .now) (b .if1 .left)
+    field-whole timingFrom (bytes (c .before)) (c .before .before .before .before .before .before .if1 .left)
     ∙ timing-rate _ _ (c .before .before .before .if2 .left)
-    ∙ ap (λ r. andThen r (λ rate. gives (timecode rate (getD (b .before .before .args .raw .now) 1 0))))
+    ∙ ap (λ r. andThen r (λ rate. gives (timecode rate (getD (bytes (c .before)) 1 0))))
     (sym (c .from-int .ensures ∙ ap toRate (ap natAbs (minus (c .before)))))
 
 returns-3 : tie.Need-returns-3

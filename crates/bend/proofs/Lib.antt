@@ -1,0 +1,2 @@
+pub mod BendFloats
+pub mod Identical

@@ -1,0 +1,34 @@
+-- `PitchBend::from_f32` meets its contract: the clamped float times 8,192 is exact, and its whole part is within 8,192.
+use mathlib.Core.Path.{ap, _∙_}
+use borrow.Author.Needs.{needs}
+use lib.Ieee.{binary32, ofBits}
+use Rattle.smf.specs.Bend.{rawOf, rawOfFloat}
+use Rattle.bend.proofs.BendFloats.{product, narrow, passed}
+use Rattle.bend.proofs.PitchBend.from_f32.Statement.{statement}
+use Rattle.bend.proofs.PitchBend.from_f32.Tie as tie
+
+clamp-f32-requires : tie.Need-clamp-f32-requires
+clamp-f32-requires c κs = search needs
+
+truncating-f32-to-i64-requires : tie.Need-truncating-f32-to-i64-requires
+unfolding ofBits
+truncating-f32-to-i64-requires c κs =
+    let p = product binary32 (c .before .args .float) (c .before .good .0 .1) (c .clamp-f32 .ensures) in
+    (p .above, p .below)
+
+cast-from-int : tie.Need-cast-from-int
+unfolding ofBits
+cast-from-int c = narrow binary32 (c .before .before .args .float) (c .before .before .good .0 .1) (c .before .clamp-f32 .ensures) (c .truncating-f32-to-i64 .ensures)
+
+from-int-requires : tie.Need-from-int-requires
+from-int-requires c κs = search needs
+
+returns : tie.Need-returns
+unfolding ofBits rawOfFloat
+returns c =
+    let b = c .before in
+    c .from-int .ensures
+    ∙ ap rawOf (passed binary32 (b .before .before .args .float) (b .before .before .good .0 .1) (b .before .clamp-f32 .ensures) (b .truncating-f32-to-i64 .ensures))
+
+pub from-f32-spec : {M : Type 1} → statement M
+from-f32-spec = tie.close (tie.spec clamp-f32-requires truncating-f32-to-i64-requires cast-from-int from-int-requires returns)
