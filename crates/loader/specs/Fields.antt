@@ -15,15 +15,17 @@ abbrev pub timingGiven : ℕ → ℕ → ℕ → Answer Timing
 timingGiven ticks rate subframe =
     pick (eqb rate 0) (gives (metrical ticks)) (andThen (toRate rate) (λ (r : ℕ). gives (timecode r subframe)))
 
--- the three numbers of a timing: what it does not have is 0
+-- the three numbers of a timing, each 0 where it has none: ticks in a beat ..
 abbrev pub ticksOf : Timing → ℕ
 ticksOf (metrical ticks) = ticks
 ticksOf (timecode rate subframe) = 0
 
+-- .. frames in a second ..
 abbrev pub rateOf : Timing → ℕ
 rateOf (metrical ticks) = 0
 rateOf (timecode rate subframe) = rate
 
+-- .. and ticks in a frame
 abbrev pub subframeOf : Timing → ℕ
 subframeOf (metrical ticks) = 0
 subframeOf (timecode rate subframe) = subframe
