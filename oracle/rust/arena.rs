@@ -3,6 +3,8 @@
 
 use crate::prelude::*;
 
+mod bends;
+mod header;
 mod numbers;
 mod port;
 mod random;
@@ -40,6 +42,8 @@ impl Arena {
         }
         let run = match module.as_deref() {
             Some("numbers") => numbers::run,
+            Some("header") => header::run,
+            Some("bends") => bends::run,
             _ => return usage(),
         };
         let mode = if cfg!(feature = "strict") { "strict" } else { "lenient" };
@@ -54,6 +58,6 @@ impl Arena {
 }
 
 fn usage() -> i32 {
-    eprintln!("usage: MODULE [--full] [--seed N], where MODULE is: numbers");
+    eprintln!("usage: MODULE [--full] [--seed N], where MODULE is: numbers, header, bends");
     2
 }

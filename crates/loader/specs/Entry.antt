@@ -14,6 +14,6 @@ answered (gives a) = 0
 answered (refuses n) = n
 
 -- what a lent value holds at the end: its part of what is given; after a refusal, what it held
-abbrev pub leaves : {A : Type 0} → (A → ℕ) → Answer A → ℕ → ℕ
+abbrev pub leaves : {A B : Type 0} → (A → B) → Answer A → B → B
 leaves part (gives a) held = part a
 leaves part (refuses n) held = held

@@ -1,2 +1,4 @@
 -- What the exported entries answer, in plain numbers.
 pub mod Entry
+pub mod Fields
+pub mod Smpte

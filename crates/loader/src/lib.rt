@@ -1,5 +1,6 @@
 // The exported entries, which C and Rust link: numbers, byte slices and values lent for what is found.
 // Each answers 0 where it accepts, else the refusal's number in document 01's table. A refusal changes nothing that was lent.
+// One that refuses nothing answers its value itself. Those for numbers and payloads stand here, the others in modules.
 ghost use mathlib.Core.Path.{_≡_};
 ghost use Prim.Native.Nat.{ℕ};
 ghost use lib.ListN.{length};
@@ -14,6 +15,10 @@ use number::rules::Rules;
 use number::varlen::ReadNumber;
 use number::varlen::ReadSlice;
 use number::varlen::Written;
+
+pub mod bends;
+pub mod fields;
+pub mod smpte;
 
 // The rules that a flag sets: strict where it is not 0.
 fn rules(strict: u8) -> Rules

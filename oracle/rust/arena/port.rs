@@ -1,8 +1,8 @@
 //! The port's exported entries. A slice goes over as its start and its length; the answer is a refusal's number, or
 //! 0. Beside the answer stands each value that an entry is to set: `None` where it left the value as it was.
 
-// An answer of eight bits is declared as 32 and cut. The port's code leaves the bits above it as they come, and Rust
-// on x86-64 would take them for zeros.
+// An answer of eight or 16 bits is declared as 32 and cut. The port's code leaves the bits above it as they come, and
+// Rust on x86-64 would take them for zeros.
 extern "C" {
     fn apk_number_read(
         bytes: *const u8, length: usize, at: usize, strict: u8, value: *mut u32, next: *mut usize,
@@ -16,6 +16,34 @@ extern "C" {
         payload: *const u8, payload_length: usize, start: usize, length: usize,
         out: *mut u8, out_length: usize, at: usize, next: *mut usize,
     ) -> u32;
+    fn apk_format_read(bytes: *const u8, length: usize, format: *mut u8) -> u32;
+    fn apk_format_encode(format: u8, bytes: *mut [u8; 2]) -> u32;
+    fn apk_timing_read(bytes: *const u8, length: usize, ticks: *mut u16, rate: *mut u8, subframe: *mut u8) -> u32;
+    fn apk_timing_encode(ticks: u16, rate: u8, subframe: u8, bytes: *mut [u8; 2]) -> u32;
+    fn apk_fps_from_code(code: u8) -> u32;
+    fn apk_fps_as_code(rate: u8, code: *mut u8) -> u32;
+    fn apk_fps_from_int(raw: u8, rate: *mut u8) -> u32;
+    fn apk_fps_as_f32(rate: u8, frames: *mut f32) -> u32;
+    fn apk_smpte_new(hour: u8, minute: u8, second: u8, frame: u8, subframe: u8, rate: u8) -> u32;
+    fn apk_smpte_read(first: u8, minute: u8, second: u8, frame: u8, subframe: u8, time: *mut [u8; 6]) -> u32;
+    fn apk_smpte_encode(
+        hour: u8, minute: u8, second: u8, frame: u8, subframe: u8, rate: u8, bytes: *mut [u8; 5],
+    ) -> u32;
+    fn apk_smpte_second_f32(
+        hour: u8, minute: u8, second: u8, frame: u8, subframe: u8, rate: u8, seconds: *mut f32,
+    ) -> u32;
+    fn apk_smpte_position(
+        hour: u8, minute: u8, second: u8, frame: u8, subframe: u8, rate: u8, subframes: *mut u32,
+    ) -> u32;
+    fn apk_bend_min_raw_value() -> u32;
+    fn apk_bend_mid_raw_value() -> u32;
+    fn apk_bend_max_raw_value() -> u32;
+    fn apk_bend_from_int(int: i16) -> u32;
+    fn apk_bend_from_f32(float: f32) -> u32;
+    fn apk_bend_from_f64(float: f64) -> u32;
+    fn apk_bend_as_int(raw: u16, int: *mut i16) -> u32;
+    fn apk_bend_as_f32(raw: u16, float: *mut f32) -> u32;
+    fn apk_bend_as_f64(raw: u16, float: *mut f64) -> u32;
 }
 
 /// What a value holds before a call. No request makes an entry set it to this.
@@ -60,4 +88,122 @@ pub fn payload_write(payload: &[u8], start: usize, length: usize, out: &mut [u8]
         )
     };
     (answer as u8, set(next))
+}
+
+/// What a value lent to the entries below holds before a call, cut to its width. An accepted call may set it to any
+/// number, this one too, so what it holds at the end is compared: after a refusal, this.
+pub const HELD: u64 = 0xA5A5_A5A5_A5A5_A5A5;
+
+pub fn format_read(bytes: &[u8]) -> (u8, u8) {
+    let mut format = HELD as u8;
+    let answer = unsafe { apk_format_read(bytes.as_ptr(), bytes.len(), &mut format) };
+    (answer as u8, format)
+}
+
+pub fn format_encode(format: u8) -> (u8, [u8; 2]) {
+    let mut bytes = [HELD as u8; 2];
+    let answer = unsafe { apk_format_encode(format, &mut bytes) };
+    (answer as u8, bytes)
+}
+
+/// The ticks, the rate and the subframe.
+pub fn timing_read(bytes: &[u8]) -> (u8, (u16, u8, u8)) {
+    let (mut ticks, mut rate, mut subframe) = (HELD as u16, HELD as u8, HELD as u8);
+    let answer = unsafe { apk_timing_read(bytes.as_ptr(), bytes.len(), &mut ticks, &mut rate, &mut subframe) };
+    (answer as u8, (ticks, rate, subframe))
+}
+
+pub fn timing_encode(ticks: u16, rate: u8, subframe: u8) -> (u8, [u8; 2]) {
+    let mut bytes = [HELD as u8; 2];
+    let answer = unsafe { apk_timing_encode(ticks, rate, subframe, &mut bytes) };
+    (answer as u8, bytes)
+}
+
+pub fn fps_from_code(code: u8) -> u8 {
+    unsafe { apk_fps_from_code(code) as u8 }
+}
+
+pub fn fps_as_code(rate: u8) -> (u8, u8) {
+    let mut code = HELD as u8;
+    let answer = unsafe { apk_fps_as_code(rate, &mut code) };
+    (answer as u8, code)
+}
+
+pub fn fps_from_int(raw: u8) -> (u8, u8) {
+    let mut rate = HELD as u8;
+    let answer = unsafe { apk_fps_from_int(raw, &mut rate) };
+    (answer as u8, rate)
+}
+
+/// A float is given by its bits, here and below.
+pub fn fps_as_f32(rate: u8) -> (u8, u32) {
+    let mut frames = f32::from_bits(HELD as u32);
+    let answer = unsafe { apk_fps_as_f32(rate, &mut frames) };
+    (answer as u8, frames.to_bits())
+}
+
+/// Hour, minute, second, frame, subframe, rate.
+pub type Six = [u8; 6];
+
+pub fn smpte_new([hour, minute, second, frame, subframe, rate]: Six) -> u8 {
+    unsafe { apk_smpte_new(hour, minute, second, frame, subframe, rate) as u8 }
+}
+
+pub fn smpte_read([first, minute, second, frame, subframe]: [u8; 5]) -> (u8, Six) {
+    let mut time = [HELD as u8; 6];
+    let answer = unsafe { apk_smpte_read(first, minute, second, frame, subframe, &mut time) };
+    (answer as u8, time)
+}
+
+pub fn smpte_encode([hour, minute, second, frame, subframe, rate]: Six) -> (u8, [u8; 5]) {
+    let mut bytes = [HELD as u8; 5];
+    let answer = unsafe { apk_smpte_encode(hour, minute, second, frame, subframe, rate, &mut bytes) };
+    (answer as u8, bytes)
+}
+
+pub fn smpte_second_f32([hour, minute, second, frame, subframe, rate]: Six) -> (u8, u32) {
+    let mut seconds = f32::from_bits(HELD as u32);
+    let answer = unsafe { apk_smpte_second_f32(hour, minute, second, frame, subframe, rate, &mut seconds) };
+    (answer as u8, seconds.to_bits())
+}
+
+pub fn smpte_position([hour, minute, second, frame, subframe, rate]: Six) -> (u8, u32) {
+    let mut subframes = HELD as u32;
+    let answer = unsafe { apk_smpte_position(hour, minute, second, frame, subframe, rate, &mut subframes) };
+    (answer as u8, subframes)
+}
+
+/// The lowest, the middle and the highest.
+pub fn bend_raw_values() -> [u16; 3] {
+    unsafe { [apk_bend_min_raw_value() as u16, apk_bend_mid_raw_value() as u16, apk_bend_max_raw_value() as u16] }
+}
+
+pub fn bend_from_int(int: i16) -> u16 {
+    unsafe { apk_bend_from_int(int) as u16 }
+}
+
+pub fn bend_from_f32(bits: u32) -> u16 {
+    unsafe { apk_bend_from_f32(f32::from_bits(bits)) as u16 }
+}
+
+pub fn bend_from_f64(bits: u64) -> u16 {
+    unsafe { apk_bend_from_f64(f64::from_bits(bits)) as u16 }
+}
+
+pub fn bend_as_int(raw: u16) -> (u8, i16) {
+    let mut int = HELD as i16;
+    let answer = unsafe { apk_bend_as_int(raw, &mut int) };
+    (answer as u8, int)
+}
+
+pub fn bend_as_f32(raw: u16) -> (u8, u32) {
+    let mut float = f32::from_bits(HELD as u32);
+    let answer = unsafe { apk_bend_as_f32(raw, &mut float) };
+    (answer as u8, float.to_bits())
+}
+
+pub fn bend_as_f64(raw: u16) -> (u8, u64) {
+    let mut float = f64::from_bits(HELD);
+    let answer = unsafe { apk_bend_as_f64(raw, &mut float) };
+    (answer as u8, float.to_bits())
 }
