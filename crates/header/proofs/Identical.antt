@@ -119,11 +119,11 @@ sameEncodedTiming (encodedtiming.Refused n) = ap encodedtiming.Refused (number-b
 pub timingEncoded-injective : {x y : EncodedTiming} → timingEncoded x ≡ timingEncoded y → x ≡ y
 timingEncoded-injective = injective timingEncoded backEncodedTiming sameEncodedTiming
 
-backSmpteTime : Time → SmpteTime
+pub backSmpteTime : Time → SmpteTime
 backSmpteTime t =
     record { hour = t .hour; minute = t .minute; second = t .second; frame = t .frame; subframe = t .subframe; fps = backFps (t .rate) }
 
-sameSmpteTime : (t : SmpteTime) → backSmpteTime (smpteTimeOf t) ≡ t
+pub sameSmpteTime : (t : SmpteTime) → backSmpteTime (smpteTimeOf t) ≡ t
 unfolding backSmpteTime
 sameSmpteTime t = rw (sameFps (t .fps))
 
