@@ -19,3 +19,4 @@ pub mod MetaAt
 pub mod CalledAt
 pub mod Table
 pub mod Reading
+pub mod Legal

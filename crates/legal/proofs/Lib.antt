@@ -1,0 +1,4 @@
+pub mod Channels
+pub mod Forms
+pub mod Settled
+pub mod Identical

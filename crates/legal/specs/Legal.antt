@@ -1,0 +1,43 @@
+-- Whether an event may be written: what `legality` answers, and what is legal of a form over the bytes lent.
+use mathlib.Core.Bool.{Bool}
+use mathlib.Core.List.{List}
+use Prim.Native.Nat.{ℕ, _^_}
+use lib.Dec.{ltb}
+use Rattle.smf.specs.Answer.{pick, Answer, gives, refuses, andThen}
+use Rattle.smf.specs.Place.{Span}
+use Rattle.smf.specs.Event.{inside, isNamed}
+use Rattle.number.specs.Refusal.{numberOf}
+use Rattle.message.specs.Message.{spanOf}
+use Rattle.legal.specs.declared.form.Form.{Form}
+use Rattle.legal.specs.declared.form.Form.the-variants.{AboveWidth, System, Typed, Unknown, Fixed}
+use Rattle.legal.specs.declared.legal.Verdict.{Verdict}
+use Rattle.legal.specs.declared.legal.Verdict.the-variants.{Legal, Refused}
+
+-- whether there is an answer, and by which number there is none
+abbrev pub settled : {A : Type 0} → Answer A → Answer (Unit {0})
+settled a = andThen a (λ x. gives tt)
+
+abbrev pub verdictOf : Verdict → Answer (Unit {0})
+verdictOf Legal = gives tt
+verdictOf (Refused n) = refuses (numberOf n)
+
+-- document 01, refusals 19 and 22: a payload's range inside the bytes lent, and not above 268,435,455 bytes
+unfoldable pub loadAllowed : List ℕ → Span → Answer (Unit {0})
+loadAllowed bytes span = pick (inside bytes span) (pick (ltb (span .length) (2 ^ 28)) (gives tt) (refuses 22)) (refuses 19)
+
+-- document 01, refusal 23, after those: an `Unknown` that would read as a named kind
+unfoldable pub unknownAllowed : List ℕ → ℕ → Span → Answer (Unit {0})
+unknownAllowed bytes t span =
+    andThen (loadAllowed bytes span) (λ x. pick (isNamed t (span .length)) (refuses 23) (gives tt))
+
+-- a form over the bytes lent: 18, 19, 22, 23 in that order
+unfoldable pub formAllowed : List ℕ → Form → Answer (Unit {0})
+formAllowed bytes AboveWidth = refuses 18
+formAllowed bytes (System status load) = loadAllowed bytes (spanOf load)
+formAllowed bytes (Typed t load) = loadAllowed bytes (spanOf load)
+formAllowed bytes (Unknown t load) = unknownAllowed bytes t (spanOf load)
+formAllowed bytes (Fixed t own) = gives tt
+
+-- and a delta before it
+unfoldable pub eventAllowed : List ℕ → ℕ → Form → Answer (Unit {0})
+eventAllowed bytes delta form = pick (ltb delta (2 ^ 28)) (formAllowed bytes form) (refuses 18)
