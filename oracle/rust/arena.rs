@@ -4,6 +4,7 @@
 use crate::prelude::*;
 
 mod bends;
+mod events;
 mod header;
 mod numbers;
 mod port;
@@ -44,6 +45,7 @@ impl Arena {
             Some("numbers") => numbers::run,
             Some("header") => header::run,
             Some("bends") => bends::run,
+            Some("events") => events::run,
             _ => return usage(),
         };
         let mode = if cfg!(feature = "strict") { "strict" } else { "lenient" };
@@ -58,6 +60,6 @@ impl Arena {
 }
 
 fn usage() -> i32 {
-    eprintln!("usage: MODULE [--full] [--seed N], where MODULE is: numbers, header, bends");
+    eprintln!("usage: MODULE [--full] [--seed N], where MODULE is: numbers, header, bends, events");
     2
 }

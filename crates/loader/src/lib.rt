@@ -17,6 +17,7 @@ use number::varlen::ReadSlice;
 use number::varlen::Written;
 
 pub mod bends;
+pub mod events;
 pub mod fields;
 pub mod smpte;
 

@@ -16,6 +16,10 @@ extern "C" {
         payload: *const u8, payload_length: usize, start: usize, length: usize,
         out: *mut u8, out_length: usize, at: usize, next: *mut usize,
     ) -> u32;
+    fn apk_event_read(
+        bytes: *const u8, length: usize, at: usize, running: u8, strict: u8,
+        row: *mut [u64; 10], used: *mut usize, after: *mut u8,
+    ) -> u32;
     fn apk_format_read(bytes: *const u8, length: usize, format: *mut u8) -> u32;
     fn apk_format_encode(format: u8, bytes: *mut [u8; 2]) -> u32;
     fn apk_timing_read(bytes: *const u8, length: usize, ticks: *mut u16, rate: *mut u8, subframe: *mut u8) -> u32;
@@ -206,4 +210,17 @@ pub fn bend_as_f64(raw: u16) -> (u8, u64) {
     let mut float = f64::from_bits(HELD);
     let answer = unsafe { apk_bend_as_f64(raw, &mut float) };
     (answer as u8, float.to_bits())
+}
+
+/// What a row holds before a call. No event is this.
+const ROW: [u64; 10] = [u64::MAX; 10];
+
+/// The answer, and the row, the bytes used and the running status after.
+pub fn event_read(bytes: &[u8], at: usize, running: u8) -> (u8, (Option<[u64; 10]>, usize, u8)) {
+    let (mut row, mut used, mut after) = (ROW, BEFORE, 0xFF);
+    let strict = cfg!(feature = "strict") as u8;
+    let answer = unsafe {
+        apk_event_read(bytes.as_ptr(), bytes.len(), at, running, strict, &mut row, &mut used, &mut after)
+    };
+    (answer as u8, (Some(row).filter(|row| *row != ROW), used, after))
 }

@@ -1,0 +1,75 @@
+-- An event as a row of ten numbers, and what the reader of one leaves its caller with.
+use mathlib.Core.List.{List, [], _∷_}
+use Prim.Native.Nat.{ℕ, _+_}
+use Rattle.smf.specs.Answer.{pick}
+use Rattle.smf.specs.Place.{Span}
+use Rattle.smf.specs.Signed.{byteOfSigned}
+use Rattle.smf.specs.Wire.{Reading, reads, refused}
+use Rattle.smf.specs.Kind as kind
+use Rattle.smf.specs.Event.{Event, EventAt}
+use Rattle.loader.specs.declared.events.Row.{Row}
+
+-- a row's numbers behind its delta: the kind's number, six fields, the payload's start and length
+abbrev pub rowNumbers : Row → List ℕ
+rowNumbers r = r .kind ∷ r .a ∷ r .b ∷ r .c ∷ r .d ∷ r .e ∷ r .f ∷ r .start ∷ r .length ∷ []
+
+abbrev pub row : ℕ → ℕ → ℕ → ℕ → ℕ → ℕ → ℕ → List ℕ
+row number a b c d e f = number ∷ a ∷ b ∷ c ∷ d ∷ e ∷ f ∷ 0 ∷ 0 ∷ []
+
+abbrev pub rowLoad : ℕ → ℕ → Span → List ℕ
+rowLoad number a span = number ∷ a ∷ 0 ∷ 0 ∷ 0 ∷ 0 ∷ 0 ∷ span .start ∷ span .length ∷ []
+
+-- a channel message by its status's upper half, 8 to 14, with the channel first
+abbrev pub midiRow : ℕ → kind.Message → List ℕ
+midiRow ch (kind.noteOff key vel) = row 8 ch key vel 0 0 0
+midiRow ch (kind.noteOn key vel) = row 9 ch key vel 0 0 0
+midiRow ch (kind.aftertouch key vel) = row 10 ch key vel 0 0 0
+midiRow ch (kind.controller number value) = row 11 ch number value 0 0 0
+midiRow ch (kind.programChange program) = row 12 ch program 0 0 0 0
+midiRow ch (kind.channelAftertouch vel) = row 13 ch vel 0 0 0 0
+midiRow ch (kind.pitchBend raw) = row 14 ch raw 0 0 0 0
+
+-- a meta message by 256 and its type, an unknown one by 512 with its type as a field; a track number that is there by 1 and the number;
+-- the sharps of a key as their byte; yes 1, no 0; an SMPTE rate last
+abbrev pub metaRow : kind.Meta Span → List ℕ
+metaRow (kind.trackNumber n) = row 0x100 1 n 0 0 0 0
+metaRow kind.noTrackNumber = row 0x100 0 0 0 0 0 0
+metaRow (kind.text t p) = rowLoad (0x100 + t) 0 p
+metaRow (kind.midiChannel c) = row 0x120 c 0 0 0 0 0
+metaRow (kind.midiPort c) = row 0x121 c 0 0 0 0 0
+metaRow kind.endOfTrack = row 0x12F 0 0 0 0 0 0
+metaRow (kind.tempo v) = row 0x151 v 0 0 0 0 0
+metaRow (kind.smpteOffset t) = row 0x154 (t .hour) (t .minute) (t .second) (t .frame) (t .subframe) (t .rate)
+metaRow (kind.timeSignature a b c d) = row 0x158 a b c d 0 0
+metaRow (kind.keySignature sharps minor) = row 0x159 (byteOfSigned sharps) (pick minor 1 0) 0 0 0 0
+metaRow (kind.sequencerSpecific p) = rowLoad 0x17F 0 p
+metaRow (kind.unknown t p) = rowLoad 0x200 t p
+
+abbrev pub kindRow : kind.Kind Span → List ℕ
+kindRow (kind.midi channel message) = midiRow channel message
+kindRow (kind.sysEx p) = rowLoad 0xF0 0 p
+kindRow (kind.escape p) = rowLoad 0xF7 0 p
+kindRow (kind.meta m) = metaRow m
+
+abbrev pub eventRow : Event Span → List ℕ
+eventRow e = e .delta ∷ kindRow (e .kind)
+
+-- the answer: 0 where an event was read, else the refusal's number
+abbrev pub readAnswered : Reading EventAt → ℕ
+readAnswered (reads e) = 0
+readAnswered (refused n running) = n
+
+-- the row at the end: the event's; after a refusal, what it held
+abbrev pub readRow : Reading EventAt → List ℕ → List ℕ
+readRow (reads e) held = eventRow (e .event)
+readRow (refused n running) held = held
+
+-- the bytes used: none after a refusal
+abbrev pub readUsed : Reading EventAt → ℕ
+readUsed (reads e) = e .used
+readUsed (refused n running) = 0
+
+-- the running status after the event, or that the refusal leaves
+abbrev pub readRunning : Reading EventAt → ℕ
+readRunning (reads e) = e .running
+readRunning (refused n running) = running
