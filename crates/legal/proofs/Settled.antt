@@ -11,7 +11,7 @@ use Rattle.smf.specs.Answer.{pick, Answer, gives, refuses, andThen, Rules}
 use Rattle.smf.specs.Place.{Span}
 use Rattle.smf.specs.Kind.{Message, Meta, trackNumber, noTrackNumber, text, midiChannel, midiPort, endOfTrack, tempo, smpteOffset, timeSignature, keySignature, sequencerSpecific, unknown}
 use Rattle.smf.specs.Kind.{Kind, midi, sysEx, escape, meta}
-use Rattle.smf.specs.Event.{Event, event, kindFits, metaFits, kindLoad, metaLoad, inside, kindMisnamed, metaMisnamed, isNamed, noSpan, spanLength, mapEvent, bytesOf, legal}
+use Rattle.smf.specs.Event.{Event, event, kindFits, metaFits, kindLoad, metaLoad, inside, kindMisnamed, metaMisnamed, isNamed, noSpan, spanLength, mapEvent, bytesOf, legal, encodeEvent, eventBytes}
 use Rattle.legal.specs.Channel.{channelOf, channelFits}
 use Rattle.legal.specs.Form.{rangeOf, shapeOf, metaForm}
 use Rattle.legal.specs.Legal.{settled, loadAllowed, unknownAllowed, formAllowed, eventAllowed}
@@ -39,6 +39,24 @@ settling x true true true false = refl
 settling x true true false misnamed = refl
 settling x true false short misnamed = refl
 settling x false within short misnamed = refl
+
+-- what is made of a legal event, by its legality alone
+made : {A B : Type 0} (x : A) (f : A → B) (fits within short misnamed : Bool)
+    → andThen (pick fits (pick within (pick short (pick misnamed (refuses 23) (gives x)) (refuses 22)) (refuses 19)) (refuses 18)) (λ a. gives (f a))
+    ≡ andThen (settled (pick fits (pick within (pick short (pick misnamed (refuses 23) (gives x)) (refuses 22)) (refuses 19)) (refuses 18))) (λ u. gives (f x))
+made x f true true true true = refl
+made x f true true true false = refl
+made x f true true false misnamed = refl
+made x f true false short misnamed = refl
+made x f false within short misnamed = refl
+
+pub bytes-settled : (rules : Rules) (running : ℕ) (bytes : List ℕ) (e : Event Span)
+    → eventBytes rules running bytes e ≡ andThen (settled (legal rules bytes e)) (λ u. gives (encodeEvent running (mapEvent (bytesOf bytes) e)))
+unfolding eventBytes legal
+bytes-settled rules running bytes e =
+    made (mapEvent (bytesOf bytes) e) (encodeEvent running) (ltb (e .delta) (2 ^ 28) && kindFits (e .kind)) (inside bytes (kindLoad noSpan (e .kind)))
+    (ltb (spanLength (kindLoad noSpan (e .kind))) (2 ^ 28))
+    (kindMisnamed spanLength (e .kind))
 
 module _ (rules : Rules) (bytes : List ℕ) (delta : ℕ) where
   -- an event's legality by its tests

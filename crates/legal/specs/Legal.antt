@@ -2,7 +2,7 @@
 use mathlib.Core.Bool.{Bool}
 use mathlib.Core.List.{List}
 use Prim.Native.Nat.{ℕ, _^_}
-use lib.Dec.{ltb}
+use lib.Dec.{ltb, leb}
 use Rattle.smf.specs.Answer.{pick, Answer, gives, refuses, andThen}
 use Rattle.smf.specs.Place.{Span}
 use Rattle.smf.specs.Event.{inside, isNamed}
@@ -36,7 +36,7 @@ formAllowed bytes AboveWidth = refuses 18
 formAllowed bytes (System status load) = loadAllowed bytes (spanOf load)
 formAllowed bytes (Typed t load) = loadAllowed bytes (spanOf load)
 formAllowed bytes (Unknown t load) = unknownAllowed bytes t (spanOf load)
-formAllowed bytes (Fixed t own) = gives tt
+formAllowed bytes (Fixed t own) = pick (leb (own .n) 5) (gives tt) (refuses 19)
 
 -- and a delta before it
 unfoldable pub eventAllowed : List ℕ → ℕ → Form → Answer (Unit {0})

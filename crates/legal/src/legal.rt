@@ -87,7 +87,12 @@ pub fn form_legality(delta: u28, form: Form, bytes: &[u8]) -> Verdict
         Form::System(_, load) => load_legality(load, bytes),
         Form::Typed(_, load) => load_legality(load, bytes),
         Form::Unknown(type_byte, load) => unknown_legality(type_byte, load, bytes),
-        Form::Fixed(_, _) => Verdict::Legal,
+        Form::Fixed(_, own) => {
+            if 5 < own.n {
+                return Verdict::Refused(Refusal::PayloadOutside);
+            }
+            Verdict::Legal
+        }
     }
 }
 

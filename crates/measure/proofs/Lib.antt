@@ -1,0 +1,5 @@
+pub mod ChannelBytes
+pub mod FormBytes
+pub mod EventBytes
+pub mod Sized
+pub mod Identical

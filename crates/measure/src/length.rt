@@ -1,0 +1,93 @@
+// How long an event's bytes are, and the running status that they leave.
+ghost use mathlib.Core.Path.{_≡_};
+ghost use Rattle.smf.specs.Answer.{pick, gives, refuses, andThen};
+ghost use Rattle.smf.specs.Running.{isRunning};
+ghost use Rattle.number.specs.Rules.{rulesOf};
+ghost use Rattle.message.specs.Message.{messageOf};
+ghost use Rattle.event.specs.Event.{eventOf};
+ghost use Rattle.legal.specs.Channel.{channelOf, channelFits, channelRaw};
+ghost use Rattle.measure.specs.Length.{size, lengthSaid, formLengthSaid, rawSize, eventSize};
+use crate::size::FormLength;
+use crate::size::channel_length;
+use crate::size::form_measure;
+use event::track_event::TrackEvent;
+use event::track_event::TrackEventKind;
+use legal::channel::channel_bytes;
+use legal::channel::fits;
+use legal::form::Form;
+use legal::form::meta_form;
+use message::midi::MidiMessage;
+use number::refusal::Refusal;
+use number::restricted::u4;
+use number::restricted::u28;
+use number::rules::Rules;
+use number::rules::Running;
+
+// An event's length, and the running status after it.
+pub struct Size {
+    pub length: usize,
+    pub running: Running,
+}
+
+pub enum EventLength {
+    Length(Size),
+    Refused(Refusal),
+}
+
+fn midi_length(delta: u28, channel: u4, message: MidiMessage, running: Running) -> EventLength
+    ensures { λ r. ⌜ lengthSaid r ≡ pick (channelFits (delta .0) (channel .0) (channelOf (channel .0) (messageOf message))) (gives (rawSize (running .status) (delta .0) (channelRaw (channelOf (channel .0) (messageOf message))))) (refuses 18) ⌝ }
+{
+    let bytes = channel_bytes(channel, message);
+    if !fits(delta, channel, bytes) {
+        return EventLength::Refused(Refusal::AboveWidth);
+    }
+    let status = bytes.status;
+    EventLength::Length(Size {
+        length: channel_length(delta, bytes, running),
+        running: Running { status },
+    })
+}
+
+// What follows such an event has no running status.
+fn cleared(length: FormLength) -> EventLength
+    ensures { λ r. ⌜ lengthSaid r ≡ andThen (formLengthSaid length) (λ n. gives (size n 0)) ⌝ }
+{
+    match length {
+        FormLength::Refused(refusal) => EventLength::Refused(refusal),
+        FormLength::Length(length) => EventLength::Length(Size {
+            length,
+            running: Running { status: 0 },
+        }),
+    }
+}
+
+// The running status is taken as it is: `event_length` looks at it too.
+pub fn measure(event: TrackEvent, running: Running, rules: Rules, bytes: &[u8]) -> EventLength
+    ensures { λ r. ⌜ lengthSaid r ≡ eventSize (rulesOf rules) (running .status) (now (bytes .entry)) (eventOf event) ⌝ }
+{
+    let delta = event.delta;
+    let kind = event.kind;
+    match kind {
+        TrackEventKind::Midi { channel, message } => midi_length(delta, channel, message, running),
+        TrackEventKind::SysEx(load) => cleared(form_measure(
+            delta,
+            Form::System(0xF0, load),
+            bytes,
+        )),
+        TrackEventKind::Escape(load) => cleared(form_measure(
+            delta,
+            Form::System(0xF7, load),
+            bytes,
+        )),
+        TrackEventKind::Meta(message) => cleared(form_measure(delta, meta_form(message), bytes)),
+    }
+}
+
+pub fn event_length(event: TrackEvent, running: Running, rules: Rules, bytes: &[u8]) -> EventLength
+    ensures { λ r. ⌜ lengthSaid r ≡ pick (isRunning (running .status)) (eventSize (rulesOf rules) (running .status) (now (bytes .entry)) (eventOf event)) (refuses 1) ⌝ }
+{
+    if running.is_valid() {
+        return measure(event, running, rules, bytes);
+    }
+    EventLength::Refused(Refusal::RunningStatus)
+}

@@ -1,0 +1,4 @@
+-- What the values and the answers of this crate say, in the paper's terms.
+pub mod Store
+pub mod Put
+pub mod Write

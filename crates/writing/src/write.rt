@@ -1,0 +1,46 @@
+// One event written into a lent buffer: the Rust's `TrackEvent::write`.
+ghost use mathlib.Core.Path.{_≡_};
+ghost use Rattle.smf.specs.Event.{writeEvent};
+ghost use Rattle.number.specs.Rules.{rulesOf};
+ghost use Rattle.event.specs.Event.{eventOf};
+ghost use Rattle.writing.specs.Write.{wroteEvent};
+use crate::put::Past;
+use crate::put::put_event;
+use event::track_event::TrackEvent;
+use legal::legal::Verdict;
+use legal::legal::legality;
+use number::refusal::Refusal;
+use number::rules::Rules;
+use number::rules::Running;
+
+// A refused event leaves every byte and the running status as they came.
+pub enum WroteEvent {
+    Next(Past),
+    Refused(Refusal),
+}
+
+// The room is looked at last: a legal event that stays where it is has none.
+pub fn write_event(
+    event: TrackEvent,
+    running: Running,
+    rules: Rules,
+    bytes: &[u8],
+    out: &mut [u8],
+    at: usize,
+) -> WroteEvent
+    ensures { λ r. ⌜ wroteEvent (running .status) r (now (out .exit)) ≡ writeEvent (rulesOf rules) (running .status) (now (bytes .entry)) (eventOf event) (now (out .entry)) at ⌝ }
+{
+    if !running.is_valid() {
+        return WroteEvent::Refused(Refusal::RunningStatus);
+    }
+    match legality(event, rules, bytes) {
+        Verdict::Refused(refusal) => WroteEvent::Refused(refusal),
+        Verdict::Legal => {
+            let past = put_event(event, running, rules, bytes, out, at);
+            if past.next == at {
+                return WroteEvent::Refused(Refusal::NoRoom);
+            }
+            WroteEvent::Next(past)
+        }
+    }
+}
