@@ -15,3 +15,4 @@ pub mod Wire
 pub mod Kind
 pub mod Event
 pub mod MetaAt
+pub mod Lists

@@ -1,0 +1,165 @@
+-- Lists of events, read from bytes and written. Document 01, "Lists" and "Refusal numbers".
+use mathlib.Core.Path.{_≡_}
+use mathlib.Core.List.{List, [], _∷_, _++_, map}
+use Prim.Native.Nat.{ℕ, zero, suc, _+_}
+use lib.Dec.{leb}
+use lib.ListN.{length, take, drop}
+use Rattle.smf.specs.Answer.{pick, Answer, gives, refuses, Rules}
+use Rattle.smf.specs.Running.{isRunning}
+use Rattle.smf.specs.Place.{Span, placeOf}
+use Rattle.smf.specs.Write.{over}
+use Rattle.smf.specs.Wire.{Taken, Reading, reads, refused, runningAfter}
+use Rattle.smf.specs.Kind.{rawOf}
+use Rattle.smf.specs.Event.{Event, mapEvent, bytesOf, readEvent, eventPlaced, legal, encodeEvent}
+
+-- Reading
+
+-- why reading stopped: at the end of the bytes; as many read as may be, and bytes left; at an event that was refused, by its number
+pub data Stop : Type 0 where
+  ended : Stop
+  full : Stop
+  stopped : ℕ → Stop
+
+-- the events read, each with the bytes and the running status after it; why reading stopped; the bytes and the running status there
+pub record ListTaken : Type 0 where
+  pub events : List (Taken (Event (List ℕ)))
+  pub stop : Stop
+  pub rest : List ℕ
+  pub running : ℕ
+
+abbrev pub stopsAt : Stop → List ℕ → ℕ → ListTaken
+stopsAt stop rest running = record { events = []; stop = stop; rest = rest; running = running }
+
+abbrev pub before : Taken (Event (List ℕ)) → ListTaken → ListTaken
+before t l = record { events = t ∷ l .events; stop = l .stop; rest = l .rest; running = l .running }
+
+-- go on behind an event; a refused one ends the list, and what is left and the running status are those before it
+unfoldable pub goOn : (ℕ → List ℕ → ListTaken) → ℕ → List ℕ → Reading (Taken (Event (List ℕ))) → ListTaken
+goOn more running s (reads t) = before t (more (t .running) (t .rest))
+goOn more running s (refused n after) = stopsAt (stopped n) s running
+
+-- at most so many events more
+unfoldable pub readMore : Rules → ℕ → ℕ → List ℕ → ListTaken
+readMore rules zero running [] = stopsAt ended [] running
+readMore rules zero running (b ∷ s) = stopsAt full (b ∷ s) running
+readMore rules (suc n) running [] = stopsAt ended [] running
+readMore rules (suc n) running (b ∷ s) = goOn (readMore rules n) running (b ∷ s) (readEvent rules running (b ∷ s))
+
+-- a list of at most so many events; 1 comes before all else
+unfoldable pub readList : Rules → ℕ → ℕ → List ℕ → ListTaken
+readList rules most running s = pick (isRunning running) (readMore rules most running s) (stopsAt (stopped 1) s running)
+
+-- the events by themselves
+abbrev pub eventOf : Taken (Event (List ℕ)) → Event (List ℕ)
+eventOf t = t .value
+
+abbrev pub eventsOf : ListTaken → List (Event (List ℕ))
+eventsOf l = map eventOf (l .events)
+
+-- a list read at a place: payloads as start and length in the bytes lent, and the place of the next unread byte
+pub record ListAt : Type 0 where
+  pub events : List (Event Span)
+  pub stop : Stop
+  pub place : ℕ
+  pub running : ℕ
+
+abbrev pub eventFrom : List ℕ → ℕ → Taken (Event (List ℕ)) → Event Span
+eventFrom s at t = eventPlaced s at t .event
+
+abbrev pub listPlaced : List ℕ → ℕ → ListTaken → ListAt
+listPlaced s at l =
+    record {
+      events = map (eventFrom s at) (l .events);
+      stop = l .stop;
+      place = placeOf s at (l .rest);
+      running = l .running;
+    }
+
+-- the list at a place
+unfoldable pub listAt : Rules → ℕ → ℕ → List ℕ → ℕ → ListAt
+listAt rules most running s at = listPlaced s at (readList rules most running (drop at s))
+
+-- document 01: bytes read as a list when all of them are used
+pub record ReadsAs (rules : Rules) (most running : ℕ) (s : List ℕ) (es : List (Event (List ℕ))) : Type 0 where
+  pub events : eventsOf (readList rules most running s) ≡ es
+  pub all : readList rules most running s .stop ≡ ended
+
+-- Writing
+
+-- the events that records are over given payload bytes, or the first that is illegal: its number, and its index
+pub data Checked : Type 0 where
+  allLegal : List (Event (List ℕ)) → Checked
+  illegal : (number index : ℕ) → Checked
+
+unfoldable pub withEvent : Event (List ℕ) → Checked → Checked
+withEvent e (allLegal es) = allLegal (e ∷ es)
+withEvent e (illegal n i) = illegal n i
+
+unfoldable pub checkOn : ℕ → Answer (Event (List ℕ)) → Checked → Checked
+checkOn i (gives e) others = withEvent e others
+checkOn i (refuses n) others = illegal n i
+
+-- counted from i on
+unfoldable pub check : Rules → List ℕ → ℕ → List (Event Span) → Checked
+check rules bytes i [] = allLegal []
+check rules bytes i (e ∷ es) = checkOn i (legal rules bytes e) (check rules bytes (i + 1) es)
+
+-- the running status after an event
+abbrev pub eventAfter : Event (List ℕ) → ℕ
+eventAfter e = runningAfter (rawOf (e .kind))
+
+-- the shortest bytes of a list, from a running status, and the running status after it
+unfoldable pub encodeList : ℕ → List (Event (List ℕ)) → List ℕ
+encodeList running [] = []
+encodeList running (e ∷ es) = encodeEvent running e ++ encodeList (eventAfter e) es
+
+unfoldable pub listAfter : ℕ → List (Event (List ℕ)) → ℕ
+listAfter running [] = running
+listAfter running (e ∷ es) = listAfter (eventAfter e) es
+
+-- what writing a list answers: its length, or a refusal by its number and the index of the first illegal event, 0 for 1, 20, 21
+pub data ListAnswer : Type 0 where
+  wrote : (length : ℕ) → ListAnswer
+  refusesAt : (number index : ℕ) → ListAnswer
+
+-- what it leaves in the buffer, what it answers, and the running status after it
+pub record ListWritten : Type 0 where
+  pub buffer : List ℕ
+  pub answer : ListAnswer
+  pub running : ℕ
+
+-- a refused write leaves every byte and the running status as they came
+abbrev pub listLeft : ℕ → List ℕ → ℕ → ℕ → ListWritten
+listLeft running buffer n i = record { buffer = buffer; answer = refusesAt n i; running = running }
+
+-- 20 where there is no room; an empty list fits room 0
+unfoldable pub listPut : ℕ → List ℕ → List (Event (List ℕ)) → ListWritten
+listPut running buffer es =
+    pick (leb (length (encodeList running es)) (length buffer))
+    (record { buffer = over (encodeList running es) buffer 0; answer = wrote (length (encodeList running es)); running = listAfter running es })
+    (listLeft running buffer 20 0)
+
+unfoldable pub writeChecked : ℕ → List ℕ → Checked → ListWritten
+writeChecked running buffer (allLegal es) = listPut running buffer es
+writeChecked running buffer (illegal n i) = listLeft running buffer n i
+
+-- document 01: 1, 21, then the first illegal event, then 20; records past the count are not looked at
+unfoldable pub writeList : Rules → ℕ → ℕ → List ℕ → List (Event Span) → ℕ → List ℕ → ListWritten
+writeList rules most running bytes records count buffer =
+    pick (isRunning running)
+    (pick (leb count most) (writeChecked running buffer (check rules bytes 0 (take count records))) (listLeft running buffer 21 0))
+    (listLeft running buffer 1 0)
+
+-- Sameness
+
+-- a count and the events that it counts, over the payload bytes
+pub record Counted : Type 0 where
+  pub count : ℕ
+  pub events : List (Event (List ℕ))
+
+abbrev pub counted : List ℕ → List (Event Span) → ℕ → Counted
+counted bytes records count = record { count = count; events = map (mapEvent (bytesOf bytes)) (take count records) }
+
+-- two lists are the same when counts, deltas, kinds, fields and payload bytes agree; starts don't count
+abbrev pub SameList : List ℕ → List (Event Span) → ℕ → List ℕ → List (Event Span) → ℕ → Type 0
+SameList bytes records count bytes′ records′ count′ = counted bytes records count ≡ counted bytes′ records′ count′
