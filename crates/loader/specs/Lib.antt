@@ -2,4 +2,4 @@
 pub mod Entry
 pub mod Fields
 pub mod Smpte
-pub mod Rows
+pub mod Events

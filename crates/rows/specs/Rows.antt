@@ -1,13 +1,12 @@
--- An event as a row of ten numbers, and what the reader of one leaves its caller with.
+-- An event as a row of ten numbers.
 use mathlib.Core.List.{List, [], _∷_}
 use Prim.Native.Nat.{ℕ, _+_}
 use Rattle.smf.specs.Answer.{pick}
 use Rattle.smf.specs.Place.{Span}
 use Rattle.smf.specs.Signed.{byteOfSigned}
-use Rattle.smf.specs.Wire.{Reading, reads, refused}
 use Rattle.smf.specs.Kind as kind
-use Rattle.smf.specs.Event.{Event, EventAt}
-use Rattle.loader.specs.declared.events.Row.{Row}
+use Rattle.smf.specs.Event.{Event}
+use Rattle.rows.specs.declared.row.Row.{Row}
 
 -- a row's numbers behind its delta: the kind's number, six fields, the payload's start and length
 abbrev pub rowNumbers : Row → List ℕ
@@ -53,23 +52,3 @@ kindRow (kind.meta m) = metaRow m
 
 abbrev pub eventRow : Event Span → List ℕ
 eventRow e = e .delta ∷ kindRow (e .kind)
-
--- the answer: 0 where an event was read, else the refusal's number
-abbrev pub readAnswered : Reading EventAt → ℕ
-readAnswered (reads e) = 0
-readAnswered (refused n running) = n
-
--- the row at the end: the event's; after a refusal, what it held
-abbrev pub readRow : Reading EventAt → List ℕ → List ℕ
-readRow (reads e) held = eventRow (e .event)
-readRow (refused n running) held = held
-
--- the bytes used: none after a refusal
-abbrev pub readUsed : Reading EventAt → ℕ
-readUsed (reads e) = e .used
-readUsed (refused n running) = 0
-
--- the running status after the event, or that the refusal leaves
-abbrev pub readRunning : Reading EventAt → ℕ
-readRunning (reads e) = e .running
-readRunning (refused n running) = running

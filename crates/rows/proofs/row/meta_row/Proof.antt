@@ -4,8 +4,8 @@ use mir.Syntax.{w8}
 use mir.Val.{SFits}
 use mir.Facts.{toZ-ofZ}
 use borrow.Author.Needs.{needs}
-use Rattle.loader.proofs.events.meta_row.Statement.{statement}
-use Rattle.loader.proofs.events.meta_row.Tie as tie
+use Rattle.rows.proofs.row.meta_row.Statement.{statement}
+use Rattle.rows.proofs.row.meta_row.Tie as tie
 
 enum-known-message : tie.Need-enum-known-message
 enum-known-message c = search needs

@@ -2,8 +2,8 @@
 use mathlib.Core.Path.{_∙_}
 use mir.Facts.{toZ-ofZ}
 use borrow.Author.Needs.{needs}
-use Rattle.loader.proofs.events.key_row.Statement.{statement}
-use Rattle.loader.proofs.events.key_row.Tie as tie
+use Rattle.rows.proofs.row.key_row.Statement.{statement}
+use Rattle.rows.proofs.row.key_row.Tie as tie
 
 to-byte-requires : tie.Need-to-byte-requires
 to-byte-requires c κs = search needs

@@ -1,7 +1,7 @@
 -- `time_row` meets its contract: the rate is the number that `as_int` gives.
 use borrow.Author.Needs.{needs}
-use Rattle.loader.proofs.events.time_row.Statement.{statement}
-use Rattle.loader.proofs.events.time_row.Tie as tie
+use Rattle.rows.proofs.row.time_row.Statement.{statement}
+use Rattle.rows.proofs.row.time_row.Tie as tie
 
 cast-t3 : tie.Need-cast-t3
 cast-t3 c = search needs

@@ -1,7 +1,7 @@
 -- `kind_row` meets its contract, arm by arm.
 use borrow.Author.Needs.{needs}
-use Rattle.loader.proofs.events.kind_row.Statement.{statement}
-use Rattle.loader.proofs.events.kind_row.Tie as tie
+use Rattle.rows.proofs.row.kind_row.Statement.{statement}
+use Rattle.rows.proofs.row.kind_row.Tie as tie
 
 enum-known-kind : tie.Need-enum-known-kind
 enum-known-kind c = search needs

@@ -1,7 +1,7 @@
 -- `number_row` meets its contract, arm by arm.
 use borrow.Author.Needs.{needs}
-use Rattle.loader.proofs.events.number_row.Statement.{statement}
-use Rattle.loader.proofs.events.number_row.Tie as tie
+use Rattle.rows.proofs.row.number_row.Statement.{statement}
+use Rattle.rows.proofs.row.number_row.Tie as tie
 
 enum-known-n : tie.Need-enum-known-n
 enum-known-n c = search needs

@@ -1,7 +1,7 @@
 -- `midi_row` meets its contract, arm by arm.
 use borrow.Author.Needs.{needs}
-use Rattle.loader.proofs.events.midi_row.Statement.{statement}
-use Rattle.loader.proofs.events.midi_row.Tie as tie
+use Rattle.rows.proofs.row.midi_row.Statement.{statement}
+use Rattle.rows.proofs.row.midi_row.Tie as tie
 
 enum-known-message : tie.Need-enum-known-message
 enum-known-message c = search needs

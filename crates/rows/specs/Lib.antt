@@ -1,0 +1,2 @@
+-- What the values of this crate say, in the paper's terms.
+pub mod Rows

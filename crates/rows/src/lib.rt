@@ -1,0 +1,2 @@
+// Events as rows of numbers, for those who cannot hold an enum.
+pub mod row;
