@@ -1,16 +1,16 @@
 -- Lists of events, read from bytes and written. Document 01, "Lists" and "Refusal numbers".
 use mathlib.Core.Path.{_≡_}
 use mathlib.Core.List.{List, [], _∷_, _++_, map}
-use Prim.Native.Nat.{ℕ, zero, suc, _+_}
+use Prim.Native.Nat.{ℕ, zero, suc, _+_, _-_}
 use lib.Dec.{leb}
-use lib.ListN.{length, take, drop}
+use lib.ListN.{length, take, drop, replicate}
 use Rattle.smf.specs.Answer.{pick, Answer, gives, refuses, Rules}
 use Rattle.smf.specs.Running.{isRunning}
 use Rattle.smf.specs.Place.{Span, placeOf}
 use Rattle.smf.specs.Write.{over}
 use Rattle.smf.specs.Wire.{Taken, Reading, reads, refused, runningAfter}
-use Rattle.smf.specs.Kind.{rawOf}
-use Rattle.smf.specs.Event.{Event, mapEvent, bytesOf, readEvent, eventPlaced, legal, encodeEvent}
+use Rattle.smf.specs.Kind.{meta, endOfTrack, rawOf}
+use Rattle.smf.specs.Event.{Event, event, mapEvent, bytesOf, readEvent, eventPlaced, legal, encodeEvent}
 
 -- Reading
 
@@ -79,6 +79,28 @@ listPlaced s at l =
 unfoldable pub listAt : Rules → ℕ → ℕ → List ℕ → ℕ → ListAt
 listAt rules most running s at = listPlaced s at (readList rules most running (drop at s))
 
+-- document 01: a list holds so many records and a count
+pub record Held : Type 0 where
+  pub records : List (Event Span)
+  pub count : ℕ
+
+-- records past the count are delta 0, `EndOfTrack`
+abbrev pub filler : Event Span
+filler = event 0 (meta endOfTrack)
+
+unfoldable pub holding : ℕ → List (Event Span) → Held
+holding most es = record { records = es ++ replicate (most - length es) filler; count = length es }
+
+-- a list that was read, as it is held
+pub record ListHeld : Type 0 where
+  pub list : Held
+  pub stop : Stop
+  pub place : ℕ
+  pub running : ℕ
+
+abbrev pub heldAs : ℕ → ListAt → ListHeld
+heldAs most l = record { list = holding most (l .events); stop = l .stop; place = l .place; running = l .running }
+
 -- document 01: bytes read as a list when all of them are used
 pub record ReadsAs (rules : Rules) (most running : ℕ) (s : List ℕ) (es : List (Event (List ℕ))) : Type 0 where
   pub events : eventsOf (readList rules most running s) ≡ es
@@ -121,6 +143,25 @@ listAfter running (e ∷ es) = listAfter (eventAfter e) es
 pub data ListAnswer : Type 0 where
   wrote : (length : ℕ) → ListAnswer
   refusesAt : (number index : ℕ) → ListAnswer
+
+-- how long a list's bytes are, and the running status after it; as given where it is refused
+pub record ListSize : Type 0 where
+  pub answer : ListAnswer
+  pub running : ℕ
+
+abbrev pub unsized : ℕ → ℕ → ℕ → ListSize
+unsized running n i = record { answer = refusesAt n i; running = running }
+
+unfoldable pub sizeChecked : ℕ → Checked → ListSize
+sizeChecked running (allLegal es) = record { answer = wrote (length (encodeList running es)); running = listAfter running es }
+sizeChecked running (illegal n i) = unsized running n i
+
+-- document 01: 1, 21, then the first illegal event; records past the count are not looked at
+unfoldable pub sizeList : Rules → ℕ → ℕ → List ℕ → List (Event Span) → ℕ → ListSize
+sizeList rules most running bytes records count =
+    pick (isRunning running)
+    (pick (leb count most) (sizeChecked running (check rules bytes 0 (take count records))) (unsized running 21 0))
+    (unsized running 1 0)
 
 -- what it leaves in the buffer, what it answers, and the running status after it
 pub record ListWritten : Type 0 where
