@@ -20,3 +20,5 @@ pub mod CalledAt
 pub mod Table
 pub mod Reading
 pub mod Legal
+pub mod Lists
+pub mod ListPlaces
