@@ -1,7 +1,7 @@
 -- Lists of events as a reader at a place takes them: one event after the other, each at the place that the one before it ended at.
 use mathlib.Core.Path.{_≡_, refl, sym, ap, _∙_, subst}
 use mathlib.Core.Bool.{true, false}
-use mathlib.Core.List.{List, [], _∷_}
+use mathlib.Core.List.{List, [], _∷_, map}
 use Prim.Native.Nat.{ℕ, zero, suc, _+_, _-_, _≤_, _<_}
 use native.Mathlib.Omega.{arith}
 use lib.ListN.{length, drop, length-drop, drop-of-length-le}
@@ -10,10 +10,12 @@ use Rattle.smf.specs.Answer.{Rules}
 use Rattle.smf.specs.Running.{isRunning}
 use Rattle.smf.specs.Place.{Span, placeOf, Sited}
 use Rattle.smf.specs.Wire.{Taken, Reading, reads, refused}
-use Rattle.smf.specs.Event.{Event, readEvent, EventAt, eventPlaced, placed, eventAt}
-use Rattle.smf.specs.Lists.{Stop, ended, full, stopped, ListAt, listPlaced, readMore, readList, listAt}
+use Rattle.smf.specs.Event.{Event, mapEvent, readEvent, EventAt, eventPlaced, placed, eventAt, bytesOf}
+use Rattle.smf.specs.Lists.{Stop, ended, full, stopped, ListTaken, stopsAt, before, ListAt, listPlaced, readMore, readList, eventsOf, listAt}
+use Rattle.smf.proofs.Answer.{by-lt, pick-test}
+use Rattle.smf.proofs.Place.{site-begun}
 use Rattle.smf.proofs.Event.{event-read, read-tail, Reached, EventReached, event-reached}
-use Rattle.smf.proofs.Lists.{more-none, more-left, more-read, more-not}
+use Rattle.smf.proofs.Lists.{more-none, more-left, more-read, more-not, list-read}
 
 -- a list that stops at a place with no event
 abbrev pub stopsThere : Stop → ℕ → ℕ → ListAt
@@ -87,3 +89,51 @@ module _ (rules : Rules) (running : ℕ) (s : List ℕ) (at p : ℕ) (site : Sit
   more-next {a} h e =
       let r : Reached rules running s p a = subst (EventReached rules running s p) e (event-reached rules running s p) in
       (omega (arith, r .within, length-drop at s, length-drop p s, length-drop (p + a .used) s), r .within, omega (arith, r .some))
+
+-- The records over the bytes lent are the events
+
+module _ (rules : Rules) (s : List ℕ) (at : ℕ) where
+  abbrev Themselves : ListTaken → Type 0
+  Themselves l = map (mapEvent (bytesOf s)) (listPlaced s at l .events) ≡ eventsOf l
+
+  one-itself : (n running p : ℕ) → Sited s at p → p < length s
+      → ((r q : ℕ) → Sited s at q → Themselves (readMore rules n r (drop q s)))
+      → (a : Reading EventAt) → eventAt rules running s p ≡ a → Themselves (readMore rules (suc n) running (drop p s))
+  one-itself n running p site h others (refused m after) e =
+      let r : readEvent rules running (drop p s) ≡ refused m after = subst (EventReached rules running s p) e (event-reached rules running s p) in
+      rw (more-not rules running n (drop p s) m after (some rules running s at p site h) r)
+  one-itself n running p site h others (reads a) e =
+      let r : Reached rules running s p a = subst (EventReached rules running s p) e (event-reached rules running s p) in
+      let own = mapEvent (bytesOf s) (a .event) in
+      let more = others (a .running) (p + a .used) (more-next rules running s at p site h e .0) in
+      ap (λ (l : ListAt). map (mapEvent (bytesOf s)) (l .events)) (more-step rules running s at p site n h e)
+      ∙ ap (λ (l : List (Event (List ℕ))). own ∷ l) more
+      ∙ sym (ap eventsOf (more-read rules running n (drop p s) _ (some rules running s at p site h) (r .read)))
+
+  more-itself : (n running p : ℕ) → Sited s at p → Themselves (readMore rules n running (drop p s))
+  more-itself zero running p site =
+      by-lt p (length s) (λ h. rw (more-left rules running (drop p s) (some rules running s at p site h)))
+      (λ h. let d : drop p s ≡ [] = drop-of-length-le s h in rw (d, more-none rules running zero))
+  more-itself (suc n) running p site =
+      by-lt p (length s) (λ h. one-itself n running p site h (more-itself n) (eventAt rules running s p) refl)
+      (λ h. let d : drop p s ≡ [] = drop-of-length-le s h in rw (d, more-none rules running (suc n)))
+
+-- what is known of a list that was read at a place: its records are, over the bytes lent, the events that they hold there,
+-- and its place is that of what is left, not before the place it was read at, and within the bytes
+pub record ListReached (rules : Rules) (most running : ℕ) (s : List ℕ) (at : ℕ) : Type 0 where
+  pub events : map (mapEvent (bytesOf s)) (listAt rules most running s at .events) ≡ eventsOf (readList rules most running (drop at s))
+  pub rest : readList rules most running (drop at s) .rest ≡ drop (listAt rules most running s at .place) s
+  pub onward : at ≤ listAt rules most running s at .place
+  pub within : at ≤ length s → listAt rules most running s at .place ≤ length s
+
+pub list-reached : (rules : Rules) (most running : ℕ) (s : List ℕ) (at : ℕ) → ListReached rules most running s at
+unfolding listAt readList
+list-reached rules most running s at =
+    let r = list-read rules most running (drop at s) in
+    let l = readList rules most running (drop at s) in
+    record {
+      events = pick-test (Themselves rules s at) (isRunning running) (λ _. more-itself rules s at most running at (site-begun s at)) (λ _. refl);
+      rest = r .tail ∙ drop-drop (length (drop at s) - length (l .rest)) at s;
+      onward = omega arith;
+      within = λ h. omega (arith, r .within, length-drop at s);
+    }
