@@ -22,3 +22,4 @@ pub mod Reading
 pub mod Legal
 pub mod Lists
 pub mod ListPlaces
+pub mod Checks
