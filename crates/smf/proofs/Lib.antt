@@ -23,3 +23,4 @@ pub mod Legal
 pub mod Lists
 pub mod ListPlaces
 pub mod Checks
+pub mod ListWrites

@@ -206,6 +206,11 @@ module _ (rules : Rules) (most running : ℕ) (s : List ℕ) where
   because : {stop : Stop} → list .stop ≡ stop → Stops rules most list stop
   because e = subst (Stops rules most list) e (list-read rules most running s .why)
 
+  -- a list is read to the end only from a running status
+  pub list-valid : list .stop ≡ ended → isRunning running ≡ true
+  unfolding readList
+  list-valid e = by-test (isRunning running) (λ is. is) (λ is. let q : stopped 1 ≡ ended = rw is at e in let z : _≡_ {A = ℕ} 0 1 = cc in absurd (omega arith))
+
   -- why it stopped
   pub list-ended : list .stop ≡ ended → list .rest ≡ []
   list-ended e = because e

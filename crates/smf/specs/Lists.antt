@@ -96,6 +96,10 @@ abbrev pub RecordsLegal : Rules → List ℕ → List (Event Span) → Type 0
 RecordsLegal rules bytes [] = Unit {0}
 RecordsLegal rules bytes (e ∷ es) = (legal rules bytes e ≡ gives (mapEvent (bytesOf bytes) e)) × RecordsLegal rules bytes es
 
+-- the events that counted records are, over given payload bytes
+abbrev pub listed : List ℕ → List (Event Span) → ℕ → List (Event (List ℕ))
+listed bytes records count = map (mapEvent (bytesOf bytes)) (take count records)
+
 -- the events that records are over given payload bytes, or the first that is illegal: its number, and its index
 pub data Checked : Type 0 where
   allLegal : List (Event (List ℕ)) → Checked
@@ -168,7 +172,7 @@ pub record Counted : Type 0 where
   pub events : List (Event (List ℕ))
 
 abbrev pub counted : List ℕ → List (Event Span) → ℕ → Counted
-counted bytes records count = record { count = count; events = map (mapEvent (bytesOf bytes)) (take count records) }
+counted bytes records count = record { count = count; events = listed bytes records count }
 
 -- two lists are the same when counts, deltas, kinds, fields and payload bytes agree; starts don't count
 abbrev pub SameList : List ℕ → List (Event Span) → ℕ → List ℕ → List (Event Span) → ℕ → Type 0
