@@ -1,2 +1,3 @@
 pub mod Worked
 pub mod Shortest
+pub mod Point3

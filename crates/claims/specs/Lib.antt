@@ -1,3 +1,4 @@
 -- What is claimed: document 01's statements, each as a type that proofs/ has an element of.
 pub mod Worked
 pub mod Shortest
+pub mod Point3

@@ -20,3 +20,7 @@ pub mod CalledAt
 pub mod Table
 pub mod Reading
 pub mod Legal
+pub mod Lists
+pub mod ListPlaces
+pub mod Checks
+pub mod ListWrites

@@ -1,5 +1,6 @@
 -- Lists of events, read from bytes and written. Document 01, "Lists" and "Refusal numbers".
 use mathlib.Core.Path.{_≡_}
+use mathlib.Core.Bool.{true}
 use mathlib.Core.List.{List, [], _∷_, _++_, map}
 use Prim.Native.Nat.{ℕ, zero, suc, _+_, _-_}
 use lib.Dec.{leb}
@@ -10,7 +11,7 @@ use Rattle.smf.specs.Place.{Span, placeOf}
 use Rattle.smf.specs.Write.{over}
 use Rattle.smf.specs.Wire.{Taken, Reading, reads, refused, runningAfter}
 use Rattle.smf.specs.Kind.{meta, endOfTrack, rawOf}
-use Rattle.smf.specs.Event.{Event, event, mapEvent, bytesOf, readEvent, eventPlaced, legal, encodeEvent}
+use Rattle.smf.specs.Event.{Event, event, mapEvent, bytesOf, readEvent, eventPlaced, isLegal, legal, encodeEvent}
 
 -- Reading
 
@@ -108,6 +109,19 @@ pub record ReadsAs (rules : Rules) (most running : ℕ) (s : List ℕ) (es : Lis
 
 -- Writing
 
+-- each event of a list is legal; each record is, over given payload bytes
+abbrev pub AllLegal : List (Event (List ℕ)) → Type 0
+AllLegal [] = Unit {0}
+AllLegal (e ∷ es) = (isLegal e ≡ true) × AllLegal es
+
+abbrev pub RecordsLegal : Rules → List ℕ → List (Event Span) → Type 0
+RecordsLegal rules bytes [] = Unit {0}
+RecordsLegal rules bytes (e ∷ es) = (legal rules bytes e ≡ gives (mapEvent (bytesOf bytes) e)) × RecordsLegal rules bytes es
+
+-- the events that counted records are, over given payload bytes
+abbrev pub listed : List ℕ → List (Event Span) → ℕ → List (Event (List ℕ))
+listed bytes records count = map (mapEvent (bytesOf bytes)) (take count records)
+
 -- the events that records are over given payload bytes, or the first that is illegal: its number, and its index
 pub data Checked : Type 0 where
   allLegal : List (Event (List ℕ)) → Checked
@@ -199,7 +213,7 @@ pub record Counted : Type 0 where
   pub events : List (Event (List ℕ))
 
 abbrev pub counted : List ℕ → List (Event Span) → ℕ → Counted
-counted bytes records count = record { count = count; events = map (mapEvent (bytesOf bytes)) (take count records) }
+counted bytes records count = record { count = count; events = listed bytes records count }
 
 -- two lists are the same when counts, deltas, kinds, fields and payload bytes agree; starts don't count
 abbrev pub SameList : List ℕ → List (Event Span) → ℕ → List ℕ → List (Event Span) → ℕ → Type 0
