@@ -14,7 +14,7 @@ use Rattle.smf.proofs.Write.{length-over}
 use Rattle.smf.proofs.Lists.{ReadsBack, list-reads-back, list-read, list-valid}
 use Rattle.smf.proofs.Checks.{all-legal}
 use Rattle.smf.proofs.ListWrites.{write-wrote, write-refused, write-fits, front-own, front-beyond}
-use Rattle.claims.specs.Point3.{ReadsStrictly, Accepted, Point3, Writes}
+use Rattle.claims.specs.Point3.{ReadsStrictly, Fits, Accepted, Point3, Writes}
 
 module _ (rules : Rules) (most running : ℕ) (bytes : List ℕ) (records : List (Event Span)) (count : ℕ) where
   abbrev events : List (Event (List ℕ))
@@ -29,7 +29,7 @@ module _ (rules : Rules) (most running : ℕ) (bytes : List ℕ) (records : List
   back : isRunning running ≡ true → count ≤ most → RecordsLegal rules bytes (take count records) → ReadsBack (readList (strictOf rules) most running own) running events
   back is few legal = list-reads-back (strictOf rules) most running events is (all-legal rules bytes (take count records) legal) (counted few)
 
-  -- bytes that read strictly as the list are no fewer than its own, and the running status is one
+  -- bytes that read strictly as the list are no fewer than its own, and they do so from a running status
   fewer : (s : List ℕ) → ReadsStrictly rules most running bytes records count s → length own ≤ length s
   fewer s r =
       let short = list-read (strictOf rules) most running s .shortest refl in
@@ -55,20 +55,28 @@ module _ (rules : Rules) (most running : ℕ) (bytes : List ℕ) (records : List
           beyond = rw (a .front, a .size) (front-beyond own buffer);
         }
 
+    -- accepted: the own bytes are bytes that fit
+    some-fit : (n : ℕ) → written .answer ≡ wrote n → Fits rules most running bytes records count buffer
+    some-fit n e =
+        let a = write-wrote rules most running bytes records count buffer n e in
+        let b = back (a .valid) (a .few) (a .legal) in
+        (a .few, a .legal, (own, omega (arith, a .size, a .room), record { events = b .events; all = b .stop }))
+
+    -- and where some fit, the own bytes do
+    own-fit : Fits rules most running bytes records count buffer → written .answer ≡ wrote (length own)
+    own-fit f =
+        let s = f .2 .0 in
+        let r = f .2 .2 in
+        let room : length own ≤ length buffer = omega (arith, f .2 .1, fewer s r) in
+        ap (λ (w : ListWritten). w .answer) (write-fits rules most running bytes records count buffer (valid s r) (f .0) (f .1) room)
+
+    point-3 : Point3 rules most running bytes records count buffer written
+    point-3 =
+        record {
+          accepts = ((λ w. some-fit (w .0) (w .1)), (λ f. (length own, own-fit f)));
+          accepted = accepted;
+          refused = write-refused rules most running bytes records count buffer;
+        }
+
 pub writes : Writes
-writes rules most running bytes records count buffer =
-    record {
-      accepts = (
-        (λ w.
-            let a = write-wrote rules most running bytes records count buffer (w .0) (w .1) in
-            let b = back rules most running bytes records count (a .valid) (a .few) (a .legal) in
-            (a .few, a .legal, (own rules most running bytes records count, omega (arith, a .size, a .room), record { events = b .events; all = b .stop }))),
-        (λ w.
-            let s = w .2 .0 in
-            let r = w .2 .2 in
-            let n = length (own rules most running bytes records count) in
-            (n, ap (λ (x : ListWritten). x .answer) (write-fits rules most running bytes records count buffer (valid rules most running bytes records count s r) (w .0) (w .1) (omega (arith, w .2 .1, fewer rules most running bytes records count s r))))),
-      );
-      accepted = accepted rules most running bytes records count buffer;
-      refused = write-refused rules most running bytes records count buffer;
-    }
+writes rules most running bytes records count buffer = point-3 rules most running bytes records count buffer

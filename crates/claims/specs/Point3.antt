@@ -16,6 +16,10 @@ module _ (rules : Rules) (most running : ℕ) (bytes : List ℕ) (records : List
   ReadsStrictly s = ReadsAs (strictOf rules) most running s (listed bytes records count)
 
   module _ (buffer : List ℕ) where
+    -- no more records than may be, each legal, and some bytes that fit the buffer and read strictly as them
+    abbrev pub Fits : Type 0
+    Fits = (count ≤ most) × RecordsLegal rules bytes (take count records) × ((s : List ℕ) × (length s ≤ length buffer) × ReadsStrictly s)
+
     -- document 01: an accepted write gives its length and the running status after it, and writes no byte beyond
     pub record Accepted (w : ListWritten) (n : ℕ) : Type 0 where
       pub reads : ReadsStrictly (take n (w .buffer))
@@ -24,14 +28,13 @@ module _ (rules : Rules) (most running : ℕ) (bytes : List ℕ) (records : List
       pub long : length (w .buffer) ≡ length buffer
       pub beyond : drop n (w .buffer) ≡ drop n buffer
 
-    -- what a write says, of its answer, its running status and the buffer it leaves
+    -- what a write says of its answer, the buffer that it leaves and the running status after it; document 01: a refused one changes nothing
     pub record Point3 (w : ListWritten) : Type 0 where
-      pub accepts : ((n : ℕ) × (w .answer ≡ wrote n))
-          ↔ ((count ≤ most) × RecordsLegal rules bytes (take count records) × ((s : List ℕ) × (length s ≤ length buffer) × ReadsStrictly s))
+      pub accepts : ((n : ℕ) × (w .answer ≡ wrote n)) ↔ Fits
       pub accepted : (n : ℕ) → w .answer ≡ wrote n → Accepted w n
       pub refused : (n i : ℕ) → w .answer ≡ refusesAt n i → (w .buffer ≡ buffer) × (w .running ≡ running)
 
--- it holds of what the definition answers
+-- it holds of the definition, whatever it is given
 abbrev pub Writes : Type 0
 Writes =
     (rules : Rules) (most running : ℕ) (bytes : List ℕ) (records : List (Event Span)) (count : ℕ) (buffer : List ℕ)

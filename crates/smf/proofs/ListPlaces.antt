@@ -6,16 +6,16 @@ use Prim.Native.Nat.{ℕ, zero, suc, _+_, _-_, _≤_, _<_}
 use native.Mathlib.Omega.{arith}
 use lib.ListN.{length, drop, length-drop, drop-of-length-le}
 use lib.Seq.{drop-drop}
-use Rattle.smf.specs.Answer.{Rules}
+use Rattle.smf.specs.Answer.{Rules, leniently}
 use Rattle.smf.specs.Running.{isRunning}
 use Rattle.smf.specs.Place.{Span, placeOf, Sited}
 use Rattle.smf.specs.Wire.{Taken, Reading, reads, refused}
 use Rattle.smf.specs.Event.{Event, mapEvent, readEvent, EventAt, eventPlaced, placed, eventAt, bytesOf}
-use Rattle.smf.specs.Lists.{Stop, ended, full, stopped, ListTaken, stopsAt, before, ListAt, listPlaced, readMore, readList, eventsOf, listAt}
+use Rattle.smf.specs.Lists.{Stop, ended, full, stopped, ListTaken, ListAt, listPlaced, readMore, readList, eventsOf, listAt}
 use Rattle.smf.proofs.Answer.{by-lt, pick-test}
 use Rattle.smf.proofs.Place.{site-begun}
 use Rattle.smf.proofs.Event.{event-read, read-tail, Reached, EventReached, event-reached}
-use Rattle.smf.proofs.Lists.{more-none, more-left, more-read, more-not, list-read}
+use Rattle.smf.proofs.Lists.{more-none, more-left, more-read, more-not, list-read, list-alike}
 
 -- a list that stops at a place with no event
 abbrev pub stopsThere : Stop → ℕ → ℕ → ListAt
@@ -137,3 +137,9 @@ list-reached rules most running s at =
       onward = omega arith;
       within = λ h. omega (arith, r .within, length-drop at s);
     }
+
+-- what strict reading takes at a place without a refusal, lenient reads alike
+pub list-at-alike : (rules : Rules) (most running : ℕ) (s : List ℕ) (at : ℕ) → ((n : ℕ) → listAt rules most running s at .stop ≡ stopped n → ⊥)
+    → listAt (leniently rules) most running s at ≡ listAt rules most running s at
+unfolding listAt
+list-at-alike rules most running s at not = ap (listPlaced s at) (list-alike rules most running (drop at s) (λ r. not (r .0) (r .1)))

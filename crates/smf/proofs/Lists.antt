@@ -1,22 +1,21 @@
 -- The laws of lists of events, for every capacity and all rules: what is written is read back; what every list is that is read, and
 -- why it stopped; and what strict reading takes to the end, lenient reads alike.
-use mathlib.Core.Path.{_≡_, refl, sym, ap, _∙_, subst}
-use mathlib.Core.Bool.{Bool, true, false}
+use mathlib.Core.Path.{_≡_, refl, ap, _∙_, subst}
+use mathlib.Core.Bool.{true, false}
 use mathlib.Core.List.{List, [], _∷_, _++_}
 use mathlib.Core.Logic.{_⊎_, inl, inr, ⊎-elim}
 use Prim.Native.Nat.{ℕ, zero, suc, _+_, _-_, _≤_, _<_}
 use native.Mathlib.Omega.{arith}
-use lib.ListN.{length, drop, length-append, length-drop}
+use lib.ListN.{length, drop, length-append}
 use lib.Seq.{drop-drop}
 use Rattle.smf.specs.Answer.{Rules, leniently}
 use Rattle.smf.specs.Running.{isRunning}
-use Rattle.smf.specs.Wire.{Taken, taken, Reading, reads, refused, runningAfter, readRaw}
-use Rattle.smf.specs.Kind.{rawOf}
+use Rattle.smf.specs.Wire.{Taken, taken, Reading, reads, refused, readRaw}
 use Rattle.smf.specs.Event.{Event, nameRaw, readEvent, isLegal, encodeEvent}
-use Rattle.smf.specs.Lists.{Stop, ended, full, stopped, ListTaken, stopsAt, before, goOn, readMore, readList, eventOf, eventsOf, AllLegal, eventAfter, encodeList, listAfter}
+use Rattle.smf.specs.Lists.{Stop, ended, full, stopped, ListTaken, stopsAt, before, goOn, readMore, readList, eventsOf, AllLegal, eventAfter, encodeList, listAfter}
 use Rattle.smf.proofs.Answer.{by-test, pick-test}
 use Rattle.smf.proofs.Wire.{ReadsAlike}
-use Rattle.smf.proofs.Event.{event-reads-back, EventRead, event-read, read-tail, event-alike}
+use Rattle.smf.proofs.Event.{event-reads-back, event-read, read-tail, event-alike}
 
 -- One event of the list
 
