@@ -27,7 +27,7 @@ shared-slice-read-if1-2 : tie.Need-shared-slice-read-if1-2 Inv-loop μ-loop
 shared-slice-read-if1-2 c = omega arith
 
 returns : tie.Need-returns Inv-loop μ-loop
-returns c = differ _ _ _ _ _ _ (c .before .before .before .loop-test .taken) (c .if1 .taken)
+returns c = differ _ _ _ _ _ (c .before .before .before .before .loop .i) (omega arith) (c .if1 .taken)
 
 add-i : tie.Need-add-i Inv-loop μ-loop
 add-i c = omega arith
@@ -37,11 +37,11 @@ loop-less c = omega arith
 
 loop-again : tie.Need-loop-again Inv-loop μ-loop
 loop-again c =
-    let p = c .before .before .before .before .before .pre in
-    turn _ _ _ _ _ _ (p .0) (p .1) (c .before .before .before .loop-test .taken) (c .before .before .before .before .loop .inv) (c .if1 .left)
+    let at = c .before .before .before .before in
+    turn _ _ _ _ _ (at .loop .i) (at .before .pre .0) (at .before .pre .1) (omega arith) (at .loop .inv) (c .if1 .left)
 
 returns-2 : tie.Need-returns-2 Inv-loop μ-loop
-returns-2 c = ended _ _ _ _ _ _ (c .loop-test .left) (c .before .loop .inv)
+returns-2 c = ended _ _ _ _ _ (c .before .loop .i) (omega arith) (c .before .loop .inv)
 
 pub agree-spec : {M : Type 1} → statement M
 agree-spec =
