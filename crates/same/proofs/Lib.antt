@@ -1,0 +1,4 @@
+pub mod Telling
+pub mod Loads
+pub mod Identical
+pub mod WayBack

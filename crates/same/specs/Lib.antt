@@ -1,0 +1,2 @@
+-- What the answers of this crate say, and what of a row they speak of.
+pub mod Same

@@ -1,0 +1,2 @@
+// Sameness of events: kinds, fields and payload bytes agree, wherever the payloads start.
+pub mod events;
