@@ -1,0 +1,3 @@
+pub mod Held
+pub mod Reading
+pub mod Identical

@@ -1,0 +1,3 @@
+-- What the values and the answers of this crate say, in the paper's terms.
+pub mod List
+pub mod Read
