@@ -7,12 +7,7 @@ use lib.ListN.{length, take, getD, length-map, List·getD-map}
 use lib.Seq.{getD-take, length-take-le}
 use Rattle.event.specs.Event.{eventOf}
 use Rattle.event.specs.declared.track_event.TrackEvent.{TrackEvent}
-use Rattle.event.specs.declared.track_event.TrackEventKind.the-variants as track
-use Rattle.message.specs.declared.midi.MidiMessage.the-variants as midi
-
--- what stands past the end of an array
-abbrev pub past : TrackEvent
-past = record { delta = record { 0 = 0 }; kind = track.Midi (record { 0 = 0 }) (midi.NoteOff (record { 0 = 0 }) (record { 0 = 0 })) }
+use Rattle.track.proofs.Held.{past}
 
 module _ (records : List TrackEvent) (count : ℕ) where
   pub counted-length : count ≤ length records → length (take count (map eventOf records)) ≡ count

@@ -2,3 +2,4 @@ pub mod Telling
 pub mod Loads
 pub mod Identical
 pub mod WayBack
+pub mod Agreeing

@@ -1,5 +1,5 @@
 -- Tests that tell whether a rule holds.
-use mathlib.Core.Path.{_≡_, refl, ap, ap₂}
+use mathlib.Core.Path.{_≡_, refl, ap, ap₂, subst}
 use mathlib.Core.Bool.{Bool, true, false}
 use mathlib.Core.List.{List}
 use Prim.Native.Nat.{ℕ}
@@ -40,3 +40,10 @@ module _ (s : List ℕ) (e : Event Span) (t : List ℕ) (f : Event Span) where
   kinds-tell b d told =
       tells-too (mapKind (bytesOf s) (e .kind) ≡ mapKind (bytesOf t) (f .kind)) (Same s e t f) b told (λ k. ap₂ event d k)
       (λ same. ap (λ (x : Event (List ℕ)). x .kind) same)
+
+-- what a test told, by its value
+pub told-true : (Rule : Type 0) (r : Bool) → Tells r Rule → r ≡ true → Rule
+told-true Rule r told e = subst (λ (b : Bool). Tells b Rule) e told
+
+pub told-false : (Rule : Type 0) (r : Bool) → Tells r Rule → r ≡ false → Rule → ⊥
+told-false Rule r told e = subst (λ (b : Bool). Tells b Rule) e told

@@ -1,2 +1,3 @@
-// Sameness of events: kinds, fields and payload bytes agree, wherever the payloads start.
+// Sameness of events and of lists: kinds, fields and payload bytes agree, wherever the payloads start.
 pub mod events;
+pub mod lists;

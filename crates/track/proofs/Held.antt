@@ -6,7 +6,13 @@ use lib.ListN.{length, set, length-map, replicate}
 use Rattle.smf.specs.Lists.{filler, Held, holding}
 use Rattle.event.specs.Event.{eventOf}
 use Rattle.event.specs.declared.track_event.TrackEvent.{TrackEvent}
+use Rattle.event.specs.declared.track_event.TrackEventKind.the-variants as track
+use Rattle.message.specs.declared.midi.MidiMessage.the-variants as midi
 use Rattle.track.specs.List.{capacity}
+
+-- what stands past the end of an array
+abbrev pub past : TrackEvent
+past = record { delta = record { 0 = 0 }; kind = track.Midi (record { 0 = 0 }) (midi.NoteOff (record { 0 = 0 }) (record { 0 = 0 })) }
 
 -- one element changed, and then each taken, or the other way round
 pub map-set : {A B : Type 0} (f : A → B) (l : List A) (i : ℕ) (a : A) → map f (set l i a) ≡ set (map f l) i (f a)
