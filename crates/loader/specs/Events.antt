@@ -31,13 +31,13 @@ readRunning (reads e) = e .running
 readRunning (refused n running) = running
 
 -- the rules that a writer is given; document 01: what is strict is reading
-abbrev pub writing : Rules
-writing = record { strict = true }
+abbrev pub anyRules : Rules
+anyRules = record { strict = true }
 
 -- how long the bytes of a row's event are, and the running status after it; document 01: 1, then 18, 19, 22, 23
 abbrev pub rowSize : ℕ → List ℕ → List ℕ → Answer Size
-rowSize running payload row = pick (isRunning running) (eventSize writing running payload (rowEvent row)) (refuses 1)
+rowSize running payload row = pick (isRunning running) (eventSize anyRules running payload (rowEvent row)) (refuses 1)
 
 -- what writing a row's event leaves
 abbrev pub rowWritten : ℕ → List ℕ → List ℕ → List ℕ → ℕ → EventWritten
-rowWritten running payload row buffer at = writeEvent writing running payload (rowEvent row) buffer at
+rowWritten running payload row buffer at = writeEvent anyRules running payload (rowEvent row) buffer at

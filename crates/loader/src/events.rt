@@ -5,7 +5,7 @@ ghost use Rattle.smf.specs.Event.{eventAt};
 ghost use Rattle.number.specs.Rules.{rulesOf};
 ghost use Rattle.measure.specs.Length.{Size};
 ghost use Rattle.loader.specs.Entry.{flagged, answered, leaves};
-ghost use Rattle.loader.specs.Events.{readAnswered, readRow, readUsed, readRunning, writing, rowSize, rowWritten};
+ghost use Rattle.loader.specs.Events.{readAnswered, readRow, readUsed, readRunning, anyRules, rowSize, rowWritten};
 use crate::rules;
 use event::read::ReadEvent;
 use event::track_event::TrackEvent;
@@ -54,8 +54,8 @@ pub extern "C" fn apk_event_read(
 }
 
 // The rules that writers are given. They do not matter: what is strict is reading.
-fn writing() -> Rules
-    ensures { λ r. ⌜ rulesOf r ≡ writing ⌝ }
+fn any_rules() -> Rules
+    ensures { λ r. ⌜ rulesOf r ≡ anyRules ⌝ }
 {
     Rules { strict: true }
 }
@@ -76,7 +76,7 @@ pub extern "C" fn apk_event_length(
     match event_length(
         row_event(*row),
         Running { status: running },
-        writing(),
+        any_rules(),
         payload,
     ) {
         EventLength::Refused(refusal) => refusal.number(),
@@ -109,7 +109,7 @@ pub extern "C" fn apk_event_write(
     match write_event(
         event,
         Running { status: running },
-        writing(),
+        any_rules(),
         payload,
         out,
         at,
