@@ -6,11 +6,13 @@ use crate::prelude::*;
 mod bends;
 mod events;
 mod header;
+mod kinds;
 mod numbers;
 mod port;
 mod random;
 mod refusal;
 mod report;
+mod writing;
 
 /// What `live.rs` asks of an arena, by leaking. No comparison comes here.
 #[derive(Debug)]
@@ -46,6 +48,7 @@ impl Arena {
             Some("header") => header::run,
             Some("bends") => bends::run,
             Some("events") => events::run,
+            Some("writing") => writing::run,
             _ => return usage(),
         };
         let mode = if cfg!(feature = "strict") { "strict" } else { "lenient" };
@@ -60,6 +63,6 @@ impl Arena {
 }
 
 fn usage() -> i32 {
-    eprintln!("usage: MODULE [--full] [--seed N], where MODULE is: numbers, header, bends, events");
+    eprintln!("usage: MODULE [--full] [--seed N], where MODULE is: numbers, header, bends, events, writing");
     2
 }

@@ -1,5 +1,5 @@
 // The exported entries, which C and Rust link: numbers, byte slices and values lent for what is found.
-// Each answers 0 where it accepts, else the refusal's number in document 01's table. A refusal changes nothing that was lent.
+// Each answers 0 where it accepts, else the refusal's number in document 01's table. A refusal changes nothing that was lent but what its entry says.
 // One that refuses nothing answers its value itself. Those for numbers and payloads stand here, the others in modules.
 ghost use mathlib.Core.Path.{_≡_};
 ghost use Prim.Native.Nat.{ℕ};

@@ -1,2 +1,3 @@
 // Events as rows of numbers, for those who cannot hold an enum.
+pub mod back;
 pub mod row;

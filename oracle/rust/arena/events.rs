@@ -124,7 +124,8 @@ fn rust(bytes: &[u8], at: usize, running: u8) -> Answer {
     }
 }
 
-fn row(event: &TrackEvent, bytes: &[u8]) -> [u64; 10] {
+/// An event as a row of numbers, its payload by its place in the bytes.
+pub fn row(event: &TrackEvent, bytes: &[u8]) -> [u64; 10] {
     let mut row = [0u64; 10];
     row[0] = event.delta.as_int() as u64;
     let at = |p: &[u8]| (p.as_ptr() as usize - bytes.as_ptr() as usize) as u64;

@@ -20,6 +20,14 @@ extern "C" {
         bytes: *const u8, length: usize, at: usize, running: u8, strict: u8,
         row: *mut [u64; 10], used: *mut usize, after: *mut u8,
     ) -> u32;
+    fn apk_event_length(
+        row: *const [u64; 10], payload: *const u8, payload_length: usize, running: u8,
+        length: *mut usize, after: *mut u8,
+    ) -> u32;
+    fn apk_event_write(
+        row: *const [u64; 10], payload: *const u8, payload_length: usize, running: u8,
+        out: *mut u8, out_length: usize, at: usize, next: *mut usize, after: *mut u8,
+    ) -> u32;
     fn apk_format_read(bytes: *const u8, length: usize, format: *mut u8) -> u32;
     fn apk_format_encode(format: u8, bytes: *mut [u8; 2]) -> u32;
     fn apk_timing_read(bytes: *const u8, length: usize, ticks: *mut u16, rate: *mut u8, subframe: *mut u8) -> u32;
@@ -223,4 +231,25 @@ pub fn event_read(bytes: &[u8], at: usize, running: u8) -> (u8, (Option<[u64; 10
         apk_event_read(bytes.as_ptr(), bytes.len(), at, running, strict, &mut row, &mut used, &mut after)
     };
     (answer as u8, (Some(row).filter(|row| *row != ROW), used, after))
+}
+
+/// The answer, and the length and the running status after.
+pub fn event_length(row: &[u64; 10], payload: &[u8], running: u8) -> (u8, (Option<usize>, Option<u8>)) {
+    let (mut length, mut after) = (BEFORE, 0xFF);
+    let answer =
+        unsafe { apk_event_length(row, payload.as_ptr(), payload.len(), running, &mut length, &mut after) };
+    (answer as u8, (set(length), Some(after).filter(|after| *after != 0xFF)))
+}
+
+/// The answer, and the place after and the running status after, which is the one given where it is refused.
+pub fn event_write(
+    row: &[u64; 10], payload: &[u8], running: u8, out: &mut [u8], at: usize,
+) -> (u8, (Option<usize>, u8)) {
+    let (mut next, mut after) = (BEFORE, 0xFF);
+    let answer = unsafe {
+        apk_event_write(
+            row, payload.as_ptr(), payload.len(), running, out.as_mut_ptr(), out.len(), at, &mut next, &mut after,
+        )
+    };
+    (answer as u8, (set(next), after))
 }

@@ -11,6 +11,8 @@ pub struct Entry {
     due: &'static [u8],
     /// How often the Rust gave each answer: 0 is accepted.
     answers: [u64; NUMBERS],
+    /// How often each kind was seen, where kinds are counted. Each has to occur.
+    kinds: BTreeMap<&'static str, u64>,
     /// By the Rust's answer and the port's: what differs.
     differences: BTreeMap<(u8, u8), Difference>,
 }
@@ -24,7 +26,18 @@ struct Difference {
 
 impl Entry {
     pub fn new(name: &'static str, due: &'static [u8]) -> Entry {
-        Entry { name, due, answers: [0; NUMBERS], differences: BTreeMap::new() }
+        Entry { name, due, answers: [0; NUMBERS], kinds: BTreeMap::new(), differences: BTreeMap::new() }
+    }
+
+    /// With the kinds that are counted.
+    pub fn of_kinds(mut self, kinds: &[&'static str]) -> Entry {
+        self.kinds = kinds.iter().map(|kind| (*kind, 0)).collect();
+        self
+    }
+
+    /// Counts one of a kind.
+    pub fn of_kind(&mut self, kind: &'static str) {
+        *self.kinds.get_mut(kind).unwrap() += 1;
     }
 
     /// Compares the Rust's answer with the port's, each with all that came with it.
@@ -63,13 +76,17 @@ impl Entry {
             print!("; refused with {}: {}", number, grouped(*count));
         }
         println!();
+        let kinds: Vec<_> = self.kinds.iter().map(|(kind, count)| format!("{} {}", kind, grouped(*count))).collect();
+        kinds.chunks(6).for_each(|some| println!("    {}", some.join("; ")));
         for ((rust, port), it) in &self.differences {
             println!("    DIFFERS {} times, the Rust {}, the port {}; smallest input:", grouped(it.count), rust, port);
             println!("      {}", it.shown);
         }
         let missed: Vec<_> = self.due.iter().filter(|number| self.answers[**number as usize] == 0).collect();
         missed.iter().for_each(|number| println!("    NEVER OCCURRED: {}", number));
-        self.differences.is_empty() && missed.is_empty()
+        let unseen: Vec<_> = self.kinds.iter().filter(|kind| *kind.1 == 0).collect();
+        unseen.iter().for_each(|kind| println!("    NEVER OCCURRED: {}", kind.0));
+        self.differences.is_empty() && missed.is_empty() && unseen.is_empty()
     }
 }
 

@@ -1,0 +1,3 @@
+-- Laws on rows.
+pub mod HeldBytes
+pub mod Kept
