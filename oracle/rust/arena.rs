@@ -6,6 +6,7 @@ use crate::prelude::*;
 mod bends;
 mod events;
 mod header;
+mod listing;
 mod numbers;
 mod port;
 mod random;
@@ -25,8 +26,8 @@ impl Arena {
         bytes.leak()
     }
 
-    /// Compares one module of the port with this build of the Rust: MODULE [--full] [--seed N].
-    /// Answers the exit status: 0 where nothing differs.
+    /// Compares one module of the port with this build of the Rust: MODULE [--full] [--seed N]; or lists standard
+    /// input as the Rust reads it: list. Answers the exit status: 0 where nothing differs.
     pub fn compare(words: impl Iterator<Item = String>) -> i32 {
         let (mut module, mut full, mut seed) = (None, false, 1);
         let mut words = words;
@@ -46,6 +47,8 @@ impl Arena {
             Some("header") => header::run,
             Some("bends") => bends::run,
             Some("events") => events::run,
+            Some("listing") => listing::run,
+            Some("list") => return listing::list(),
             _ => return usage(),
         };
         let mode = if cfg!(feature = "strict") { "strict" } else { "lenient" };
@@ -60,6 +63,6 @@ impl Arena {
 }
 
 fn usage() -> i32 {
-    eprintln!("usage: MODULE [--full] [--seed N], where MODULE is: numbers, header, bends, events");
+    eprintln!("usage: MODULE [--full] [--seed N], where MODULE is: numbers, header, bends, events, listing; or: list");
     2
 }
