@@ -1,0 +1,22 @@
+-- The records that count, of those that a list holds.
+use mathlib.Core.Path.{_≡_, sym, _∙_}
+use mathlib.Core.List.{List, map}
+use Prim.Native.Nat.{ℕ, _≤_, _<_}
+use native.Mathlib.Omega.{arith}
+use lib.ListN.{length, take, getD, length-map, List·getD-map}
+use lib.Seq.{getD-take, length-take-le}
+use Rattle.event.specs.Event.{eventOf}
+use Rattle.event.specs.declared.track_event.TrackEvent.{TrackEvent}
+use Rattle.event.specs.declared.track_event.TrackEventKind.the-variants as track
+use Rattle.message.specs.declared.midi.MidiMessage.the-variants as midi
+
+-- what stands past the end of an array
+abbrev pub past : TrackEvent
+past = record { delta = record { 0 = 0 }; kind = track.Midi (record { 0 = 0 }) (midi.NoteOff (record { 0 = 0 }) (record { 0 = 0 })) }
+
+module _ (records : List TrackEvent) (count : ℕ) where
+  pub counted-length : count ≤ length records → length (take count (map eventOf records)) ≡ count
+  counted-length h = length-take-le count (map eventOf records) (omega (arith, length-map records eventOf))
+
+  pub counted-at : (i : ℕ) → i < count → getD (take count (map eventOf records)) i (eventOf past) ≡ eventOf (getD records i past)
+  counted-at i h = getD-take count (map eventOf records) i (eventOf past) h ∙ List·getD-map eventOf records i past

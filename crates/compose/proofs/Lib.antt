@@ -1,0 +1,6 @@
+pub mod Counted
+pub mod Most
+pub mod Measuring
+pub mod Going
+pub mod Sizes
+pub mod Identical

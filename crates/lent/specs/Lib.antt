@@ -1,0 +1,2 @@
+-- What reading with a lent running status promises.
+pub mod Lent
