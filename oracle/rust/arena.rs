@@ -7,6 +7,7 @@ mod bends;
 mod events;
 mod header;
 mod kinds;
+mod listing;
 mod numbers;
 mod port;
 mod random;
@@ -27,8 +28,8 @@ impl Arena {
         bytes.leak()
     }
 
-    /// Compares one module of the port with this build of the Rust: MODULE [--full] [--seed N].
-    /// Answers the exit status: 0 where nothing differs.
+    /// Compares one module of the port with this build of the Rust: MODULE [--full] [--seed N]; or lists standard
+    /// input as the Rust reads it: list. Answers the exit status: 0 where nothing differs.
     pub fn compare(words: impl Iterator<Item = String>) -> i32 {
         let (mut module, mut full, mut seed) = (None, false, 1);
         let mut words = words;
@@ -49,6 +50,8 @@ impl Arena {
             Some("bends") => bends::run,
             Some("events") => events::run,
             Some("writing") => writing::run,
+            Some("listing") => listing::run,
+            Some("list") => return listing::list(),
             _ => return usage(),
         };
         let mode = if cfg!(feature = "strict") { "strict" } else { "lenient" };
@@ -63,6 +66,6 @@ impl Arena {
 }
 
 fn usage() -> i32 {
-    eprintln!("usage: MODULE [--full] [--seed N], where MODULE is: numbers, header, bends, events, writing");
+    eprintln!("usage: MODULE [--full] [--seed N], where MODULE is: numbers, header, bends, events, writing, listing; or: list");
     2
 }
