@@ -10,7 +10,7 @@ use Rattle.event.specs.Event.{eventOf}
 use Rattle.measure.specs.Length.{eventSize}
 use Rattle.track.specs.List.{capacity}
 use Rattle.track.proofs.Held.{past, unmapped}
-use Rattle.compose.proofs.Counted.{counted-length, counted-at}
+use Rattle.track.proofs.Counted.{counted-length, counted-at}
 use Rattle.compose.proofs.Measuring.{Seen, seen-first, seen-last, seen-illegal, seen-most, seen-more}
 use Rattle.compose.proofs.length.measure_all.Statement.{statement}
 use Rattle.compose.proofs.length.measure_all.Tie as tie
