@@ -8,6 +8,7 @@ mod events;
 mod header;
 mod kinds;
 mod listing;
+mod lists;
 mod numbers;
 mod port;
 mod random;
@@ -50,6 +51,7 @@ impl Arena {
             Some("bends") => bends::run,
             Some("events") => events::run,
             Some("writing") => writing::run,
+            Some("lists") => lists::run,
             Some("listing") => listing::run,
             Some("list") => return listing::list(),
             _ => return usage(),
@@ -66,6 +68,6 @@ impl Arena {
 }
 
 fn usage() -> i32 {
-    eprintln!("usage: MODULE [--full] [--seed N], where MODULE is: numbers, header, bends, events, writing, listing; or: list");
+    eprintln!("usage: MODULE [--full] [--seed N], where MODULE is: numbers, header, bends, events, writing, lists, listing; or: list");
     2
 }

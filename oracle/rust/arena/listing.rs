@@ -71,7 +71,7 @@ fn sample(random: &mut Random) -> Vec<u8> {
 }
 
 /// One event behind a running status; answers the running status behind it.
-fn event(random: &mut Random, running: u8, bytes: &mut Vec<u8>) -> u8 {
+pub fn event(random: &mut Random, running: u8, bytes: &mut Vec<u8>) -> u8 {
     (0..random.below(3)).for_each(|_| bytes.push(random.byte() | 0x80));
     bytes.push(random.byte() & 0x7F);
     let mut status = running;

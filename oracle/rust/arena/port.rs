@@ -28,6 +28,26 @@ extern "C" {
         row: *const [u64; 10], payload: *const u8, payload_length: usize, running: u8,
         out: *mut u8, out_length: usize, at: usize, next: *mut usize, after: *mut u8,
     ) -> u32;
+    fn apk_event_same(
+        row_a: *const [u64; 10], bytes_a: *const u8, length_a: usize,
+        row_b: *const [u64; 10], bytes_b: *const u8, length_b: usize,
+    ) -> u32;
+    fn apk_list_read(
+        bytes: *const u8, length: usize, at: usize, running: u8, strict: u8,
+        rows: *mut u64, cells: usize, count: *mut usize, place: *mut usize, after: *mut u8,
+    ) -> u32;
+    fn apk_list_length(
+        rows: *const u64, cells: usize, count: usize, payload: *const u8, payload_length: usize, running: u8,
+        length: *mut usize, after: *mut u8, index: *mut usize,
+    ) -> u32;
+    fn apk_list_write(
+        rows: *const u64, cells: usize, count: usize, payload: *const u8, payload_length: usize, running: u8,
+        out: *mut u8, out_length: usize, length: *mut usize, after: *mut u8, index: *mut usize,
+    ) -> u32;
+    fn apk_list_same(
+        rows_a: *const u64, cells_a: usize, count_a: usize, bytes_a: *const u8, length_a: usize,
+        rows_b: *const u64, cells_b: usize, count_b: usize, bytes_b: *const u8, length_b: usize,
+    ) -> u32;
     fn apk_format_read(bytes: *const u8, length: usize, format: *mut u8) -> u32;
     fn apk_format_encode(format: u8, bytes: *mut [u8; 2]) -> u32;
     fn apk_timing_read(bytes: *const u8, length: usize, ticks: *mut u16, rate: *mut u8, subframe: *mut u8) -> u32;
@@ -252,4 +272,65 @@ pub fn event_write(
         )
     };
     (answer as u8, (set(next), after))
+}
+
+/// 1 where two events are the same, else 0.
+pub fn event_same(a: &[u64; 10], bytes_a: &[u8], b: &[u64; 10], bytes_b: &[u8]) -> u8 {
+    unsafe { apk_event_same(a, bytes_a.as_ptr(), bytes_a.len(), b, bytes_b.as_ptr(), bytes_b.len()) as u8 }
+}
+
+/// The answer, and the count, the place and the running status there, which holds 0xFF before.
+pub fn list_read(bytes: &[u8], at: usize, running: u8, rows: &mut [u64]) -> (u8, (Option<usize>, Option<usize>, u8)) {
+    let (mut count, mut place, mut after) = (BEFORE, BEFORE, 0xFF);
+    let strict = cfg!(feature = "strict") as u8;
+    let answer = unsafe {
+        apk_list_read(
+            bytes.as_ptr(), bytes.len(), at, running, strict,
+            rows.as_mut_ptr(), rows.len(), &mut count, &mut place, &mut after,
+        )
+    };
+    (answer as u8, (set(count), set(place), after))
+}
+
+/// Rows, how many count, and the bytes that their payloads stand in.
+#[derive(Clone, Copy)]
+pub struct Sheet<'a> {
+    pub rows: &'a [u64],
+    pub count: usize,
+    pub payload: &'a [u8],
+}
+
+/// The length, the running status after, which is the one given where it is refused, and the index of what is refused.
+pub type Laid = (Option<usize>, u8, Option<usize>);
+
+pub fn list_length(sheet: Sheet, running: u8) -> (u8, Laid) {
+    let (mut length, mut after, mut index) = (BEFORE, 0xFF, BEFORE);
+    let answer = unsafe {
+        apk_list_length(
+            sheet.rows.as_ptr(), sheet.rows.len(), sheet.count, sheet.payload.as_ptr(), sheet.payload.len(), running,
+            &mut length, &mut after, &mut index,
+        )
+    };
+    (answer as u8, (set(length), after, set(index)))
+}
+
+pub fn list_write(sheet: Sheet, running: u8, out: &mut [u8]) -> (u8, Laid) {
+    let (mut length, mut after, mut index) = (BEFORE, 0xFF, BEFORE);
+    let answer = unsafe {
+        apk_list_write(
+            sheet.rows.as_ptr(), sheet.rows.len(), sheet.count, sheet.payload.as_ptr(), sheet.payload.len(), running,
+            out.as_mut_ptr(), out.len(), &mut length, &mut after, &mut index,
+        )
+    };
+    (answer as u8, (set(length), after, set(index)))
+}
+
+/// 1 where two lists are the same, else 0; 20 or 21 where one is none.
+pub fn list_same(a: Sheet, b: Sheet) -> u8 {
+    unsafe {
+        apk_list_same(
+            a.rows.as_ptr(), a.rows.len(), a.count, a.payload.as_ptr(), a.payload.len(),
+            b.rows.as_ptr(), b.rows.len(), b.count, b.payload.as_ptr(), b.payload.len(),
+        ) as u8
+    }
 }
