@@ -1,4 +1,3 @@
-pub mod Counted
 pub mod Most
 pub mod Measuring
 pub mod Going

@@ -27,7 +27,7 @@ use Rattle.measure.proofs.Sized.{size-legal, sized-legal, sized-refused}
 use Rattle.event.specs.Event.{eventOf}
 use Rattle.event.specs.declared.track_event.TrackEvent.{TrackEvent}
 use Rattle.track.proofs.Held.{past}
-use Rattle.compose.proofs.Counted.{counting, counted-length, counted-at}
+use Rattle.track.proofs.Counted.{counting, counted-length, counted-at}
 use Rattle.compose.proofs.Most.{most, event-most}
 
 -- an answer that is settled gave something

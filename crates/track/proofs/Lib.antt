@@ -1,3 +1,4 @@
 pub mod Held
+pub mod Counted
 pub mod Reading
 pub mod Identical

@@ -7,7 +7,7 @@ use borrow.Author.Needs.{needs}
 use Rattle.number.specs.Rules.{rulesOf}
 use Rattle.track.specs.List.{capacity}
 use Rattle.track.proofs.Held.{unmapped}
-use Rattle.compose.proofs.Counted.{counting, counted-length}
+use Rattle.track.proofs.Counted.{counting, counted-length}
 use Rattle.compose.proofs.Measuring.{Seen, seen-first, seen-last, seen-illegal, seen-most, seen-more}
 use Rattle.compose.proofs.length.measure_all.Statement.{statement}
 use Rattle.compose.proofs.length.measure_all.Tie as tie

@@ -11,7 +11,7 @@ use Rattle.event.specs.Event.{eventOf}
 use Rattle.writing.specs.Put.{putEvent}
 use Rattle.track.specs.List.{capacity}
 use Rattle.track.proofs.Held.{past, unmapped}
-use Rattle.compose.proofs.Counted.{counting, counted-length, counted-at}
+use Rattle.track.proofs.Counted.{counting, counted-length, counted-at}
 use Rattle.compose.proofs.Going.{Going, going-first, going-length, going-last, going-more}
 use Rattle.compose.proofs.write.put_all.Statement.{statement}
 use Rattle.compose.proofs.write.put_all.Tie as tie
