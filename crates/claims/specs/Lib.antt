@@ -1,4 +1,6 @@
 -- What is claimed: document 01's statements, each as a type that proofs/ has an element of.
+pub mod Calls
 pub mod Worked
 pub mod Shortest
 pub mod Point3
+pub mod Identical
