@@ -8,4 +8,5 @@ pub mod Point1
 pub mod Worked
 pub mod Shortest
 pub mod Point3
+pub mod Point3Calls
 pub mod Identical
