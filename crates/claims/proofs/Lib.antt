@@ -7,6 +7,7 @@ pub mod ListLeaves
 pub mod Point1
 pub mod Worked
 pub mod Shortest
+pub mod Point2
 pub mod Point3
 pub mod Point3Calls
 pub mod Identical

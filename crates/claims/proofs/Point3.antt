@@ -55,20 +55,20 @@ module _ (rules : Rules) (most running : ℕ) (bytes : List ℕ) (records : List
           beyond = rw (a .front, a .size) (front-beyond own buffer);
         }
 
-    -- accepted: the own bytes are bytes that fit
-    some-fit : (n : ℕ) → written .answer ≡ wrote n → Fits rules most running bytes records count buffer
-    some-fit n e =
-        let a = write-wrote rules most running bytes records count buffer n e in
-        let b = back (a .valid) (a .few) (a .legal) in
-        (a .few, a .legal, (own, omega (arith, a .size, a .room), record { events = b .events; all = b .stop }))
-
-    -- and where some fit, the own bytes do
+    -- where some bytes fit, the own bytes do
     own-fit : Fits rules most running bytes records count buffer → written .answer ≡ wrote (length own)
     own-fit f =
         let s = f .2 .0 in
         let r = f .2 .2 in
         let room : length own ≤ length buffer = omega (arith, f .2 .1, fewer s r) in
         ap (λ (w : ListWritten). w .answer) (write-fits rules most running bytes records count buffer (valid s r) (f .0) (f .1) room)
+
+    -- and where they are written, they are bytes that fit
+    some-fit : (n : ℕ) → written .answer ≡ wrote n → Fits rules most running bytes records count buffer
+    some-fit n e =
+        let a = write-wrote rules most running bytes records count buffer n e in
+        let b = back (a .valid) (a .few) (a .legal) in
+        (a .few, a .legal, (own, omega (arith, a .size, a .room), record { events = b .events; all = b .stop }))
 
     says : Written rules most running bytes records count buffer written
     says =

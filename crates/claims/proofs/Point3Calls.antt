@@ -109,14 +109,14 @@ back : (rules rules′ : Rules) (running : ℕ) (bytes : List ℕ) (records : Li
 back rules rules′ running bytes records count out n at w raw held told e full told′ q z strict =
     rw (told′, q, z, strict, told) (read-back rules running bytes records count out n (rw told at e) full)
 
-begins : (running : ℕ) (rules rules′ : Rules) (bytes bytes′ : List ℕ) (e e′ : Event Span) (out out′ : List ℕ) (at at′ n n′ : ℕ) (w w′ : EventWritten)
-    → w ≡ writeEvent rules running bytes e out at → at ≡ 0 → w .written .answer ≡ gives n
-    → w′ ≡ writeEvent rules′ running bytes′ e′ out′ at′ → at′ ≡ 0 → w′ .written .answer ≡ gives n′
+begins : (running running′ : ℕ) (rules rules′ : Rules) (bytes bytes′ : List ℕ) (e e′ : Event Span) (out out′ : List ℕ) (at at′ n n′ : ℕ) (w w′ : EventWritten)
+    → running′ ≡ running → w ≡ writeEvent rules running bytes e out at → at ≡ 0 → w .written .answer ≡ gives n
+    → w′ ≡ writeEvent rules′ running′ bytes′ e′ out′ at′ → at′ ≡ 0 → w′ .written .answer ≡ gives n′
     → (more : List ℕ) → take n (w .written .buffer) ≡ take n′ (w′ .written .buffer) ++ more → Same bytes e bytes′ e′
-begins running rules rules′ bytes bytes′ e e′ out out′ at at′ n n′ w w′ told z h told′ z′ h′ more q =
+begins running running′ rules rules′ bytes bytes′ e e′ out out′ at at′ n n′ w w′ same told z h told′ z′ h′ more q =
     let h₀ : writeEvent rules running bytes e out 0 .written .answer ≡ gives n = rw (told, z) at h in
-    let h₁ : writeEvent rules′ running bytes′ e′ out′ 0 .written .answer ≡ gives n′ = rw (told′, z′) at h′ in
-    never-begins running rules rules′ bytes bytes′ e e′ out out′ n n′ h₀ h₁ more (rw (told, z, told′, z′) at q)
+    let h₁ : writeEvent rules′ running bytes′ e′ out′ 0 .written .answer ≡ gives n′ = rw (told′, z′, same) at h′ in
+    never-begins running rules rules′ bytes bytes′ e e′ out out′ n n′ h₀ h₁ more (rw (told, z, told′, z′, same) at q)
 
 again : (list : EventList) (running : Running) (rules : number.Rules) (bytes out : List ℕ) (w : ListWritten)
     → w ≡ writeList (rulesOf rules) 128 (running .status) bytes (map eventOf (list .records)) (list .count) out
@@ -132,9 +132,9 @@ never : (e : TrackEvent) (running : Running) (rules : number.Rules) (bytes out :
     → (n : ℕ) → at ≡ 0 → wroteEvent (running .status) r end .written .answer ≡ gives n → WriteEvent (NeverBegins e running bytes (take n end))
 never e running rules bytes out at r end told n z h =
     calls.write-event (NeverBegins e running bytes (take n end)) (λ e′ running′ rules′ bytes′ out′ at′ r′ end′ told′ n′ more z′ same h′ q.
-    begins (running .status) (rulesOf rules) (rulesOf rules′) bytes bytes′ (eventOf e) (eventOf e′) out out′ at at′ n n′
-    (wroteEvent (running .status) r end) (wroteEvent (running .status) r′ end′) told z h (rw same at told′) z′ (rw same at h′) more
-    (rw (event-end (running .status) r end, event-end (running .status) r′ end′) q))
+    begins (running .status) (running′ .status) (rulesOf rules) (rulesOf rules′) bytes bytes′ (eventOf e) (eventOf e′) out out′ at at′ n n′
+    (wroteEvent (running .status) r end) (wroteEvent (running′ .status) r′ end′) (ap (λ (x : Running). x .status) same) told z h told′ z′ h′ more
+    (rw (event-end (running .status) r end, event-end (running′ .status) r′ end′) q))
 
 pub point-3 : Point3
 point-3 =

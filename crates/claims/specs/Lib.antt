@@ -6,5 +6,6 @@ pub mod Leaves
 pub mod Point1
 pub mod Worked
 pub mod Shortest
+pub mod Point2
 pub mod Point3
 pub mod Identical
