@@ -54,7 +54,7 @@ pub extern "C" fn apk_event_read(
 }
 
 // The rules that writers are given. They do not matter: what is strict is reading.
-fn any_rules() -> Rules
+pub fn any_rules() -> Rules
     ensures { λ r. ⌜ rulesOf r ≡ anyRules ⌝ }
 {
     Rules { strict: true }

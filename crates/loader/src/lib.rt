@@ -22,7 +22,7 @@ pub mod fields;
 pub mod smpte;
 
 // The rules that a flag sets: strict where it is not 0.
-fn rules(strict: u8) -> Rules
+pub fn rules(strict: u8) -> Rules
     ensures { λ r. ⌜ rulesOf r ≡ flagged strict ⌝ }
 {
     Rules {

@@ -1,0 +1,98 @@
+-- What is known of a sheet's list, and what follows for reading, measuring, writing and comparing it.
+use mathlib.Core.Path.{_≡_, refl, sym, ap, _∙_}
+use mathlib.Core.Bool.{Bool, true, false}
+use mathlib.Core.List.{List, map}
+use Prim.Native.Nat.{ℕ}
+use lib.ListN.{length, take}
+use lib.Seq.{take-append-seam}
+use Rattle.smf.specs.Answer.{Answer, gives, refuses}
+use Rattle.smf.specs.Place.{Span}
+use Rattle.smf.specs.Running.{isRunning}
+use Rattle.smf.specs.Event.{Event}
+use Rattle.smf.specs.Write.{Written, put}
+use Rattle.smf.specs.Lists.{Stop, ListAt, Held, holding, ListHeld, heldAs, ListSize, unsized, sizeList, ListWritten, listLeft, writeList, SameList}
+use Rattle.number.specs.Refusal.{numberOf}
+use Rattle.number.specs.declared.refusal.Refusal.{Refusal}
+use Rattle.event.specs.Event.{eventOf}
+use Rattle.track.specs.List.{capacity, heldOf}
+use Rattle.track.specs.Read.{stopOf, listRead}
+use Rattle.track.specs.declared.read.ReadList.{ReadList}
+use Rattle.sheet.specs.Sheet.{sheetOf, sheetList}
+use Rattle.sheet.specs.Taken.{taken, rowsAnswer, rowsTaken}
+use Rattle.sheet.specs.declared.from_rows.Rows.the-variants as rows
+use Rattle.sheet.specs.declared.from_rows.RowsList.{RowsList}
+use Rattle.sheet.proofs.Lifting.{taken-gives, taken-refuses}
+use Rattle.loader.specs.Events.{anyRules}
+use Rattle.loader_lists.specs.Lists.{stopNumber, sheetPut, sheetSize, sheetWritten, Told, SheetsTold}
+
+-- what the rows were taken as
+module _ (cells : List ℕ) (count : ℕ) (r : RowsList) (e : rowsTaken r ≡ taken capacity (sheetList capacity cells count)) where
+  pub is-list : r .rows ≡ rows.Enough → sheetList capacity cells count ≡ gives (heldOf (r .list))
+  is-list p = taken-gives capacity (sheetList capacity cells count) (rowsTaken r) e (ap rowsAnswer p)
+
+  pub is-none : (n : Refusal) → r .rows ≡ rows.Refused n → sheetList capacity cells count ≡ refuses (numberOf n)
+  is-none n p = taken-refuses capacity (sheetList capacity cells count) (rowsTaken r) e (numberOf n) (ap rowsAnswer p)
+
+module _ (running : ℕ) (payload cells : List ℕ) (count : ℕ) where
+  pub size-invalid : isRunning running ≡ false → unsized running 1 0 ≡ sheetSize running payload cells count
+  unfolding sheetSize
+  size-invalid v = rw v
+
+  pub size-none : {n : ℕ} → isRunning running ≡ true → sheetList capacity cells count ≡ refuses n → unsized running n 0 ≡ sheetSize running payload cells count
+  unfolding sheetSize
+  size-none v e = rw (v, e)
+
+  pub size-list : {h : Held} → isRunning running ≡ true → sheetList capacity cells count ≡ gives h
+      → sizeList anyRules capacity running payload (h .records) (h .count) ≡ sheetSize running payload cells count
+  unfolding sheetSize
+  size-list v e = rw (v, e)
+
+  module _ (buffer : List ℕ) where
+    pub write-invalid : isRunning running ≡ false → listLeft running buffer 1 0 ≡ sheetWritten running payload cells count buffer
+    unfolding sheetWritten
+    write-invalid v = rw v
+
+    pub write-none : {n : ℕ} → isRunning running ≡ true → sheetList capacity cells count ≡ refuses n → listLeft running buffer n 0 ≡ sheetWritten running payload cells count buffer
+    unfolding sheetWritten
+    write-none v e = rw (v, e)
+
+    pub write-list : {h : Held} → isRunning running ≡ true → sheetList capacity cells count ≡ gives h
+        → writeList anyRules capacity running payload (h .records) (h .count) buffer ≡ sheetWritten running payload cells count buffer
+    unfolding sheetWritten
+    write-list v e = rw (v, e)
+
+-- what a list that was read holds
+module _ (l : ListAt) (r : ReadList) (e : listRead r ≡ heldAs capacity l) where
+  pub read-count : r .list .count ≡ length (l .events)
+  unfolding holding
+  read-count = ap (λ (h : ListHeld). h .list .count) e
+
+  pub read-stop : stopNumber (stopOf (r .stop)) ≡ stopNumber (l .stop)
+  read-stop = ap (λ (h : ListHeld). stopNumber (h .stop)) e
+
+  pub read-place : r .place ≡ l .place
+  read-place = ap (λ (h : ListHeld). h .place) e
+
+  pub read-running : r .running .status ≡ l .running
+  read-running = ap (λ (h : ListHeld). h .running) e
+
+  read-events : take (r .list .count) (map eventOf (r .list .records)) ≡ l .events
+  unfolding holding
+  read-events = ap (λ (h : ListHeld). take (h .list .count) (h .list .records)) e ∙ take-append-seam (l .events) _
+
+  pub read-put : (cells : List ℕ) (w : Written) → w ≡ put (sheetOf (take (r .list .count) (map eventOf (r .list .records)))) cells 0 → w ≡ sheetPut l cells
+  read-put cells w p = p ∙ ap (λ (es : List (Event Span)). put (sheetOf es) cells 0) read-events
+
+-- of two sheets
+module _ (r : ℕ) (s : List ℕ) (a : Answer Held) (t : List ℕ) (b : Answer Held) where
+  pub first-none : {n : ℕ} → a ≡ refuses n → r ≡ n → SheetsTold r s a t b
+  first-none {n} p q = rw p (by b) where
+    by : (b : Answer Held) → SheetsTold r s (refuses n) t b
+    by (gives h) = q
+    by (refuses m) = q
+
+  pub second-none : {n : ℕ} {h : Held} → a ≡ gives h → b ≡ refuses n → r ≡ n → SheetsTold r s a t b
+  second-none p f q = rw (p, f) q
+
+  pub both-lists : {h k : Held} → a ≡ gives h → b ≡ gives k → Told r (SameList s (h .records) (h .count) t (k .records) (k .count)) → SheetsTold r s a t b
+  both-lists p f told = rw (p, f) told

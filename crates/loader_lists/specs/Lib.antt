@@ -1,0 +1,2 @@
+-- What the entries for lists answer, in plain numbers.
+pub mod Lists

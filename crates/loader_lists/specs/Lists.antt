@@ -1,0 +1,90 @@
+-- What reading, measuring, writing and comparing lists leave the caller with: a list is a sheet, rows of ten numbers.
+use mathlib.Core.Path.{_≡_}
+use mathlib.Core.Bool.{Bool, true, false}
+use mathlib.Core.List.{List}
+use Prim.Native.Nat.{ℕ}
+use Rattle.smf.specs.Answer.{pick, Answer, gives, refuses}
+use Rattle.smf.specs.Running.{isRunning}
+use Rattle.smf.specs.Write.{Written, put}
+use Rattle.smf.specs.Lists.{Stop, ended, full, stopped, ListAt, listAt, Held, ListAnswer, wrote, refusesAt, ListSize, unsized, sizeList, ListWritten, listLeft, writeList, SameList}
+use Rattle.track.specs.List.{capacity}
+use Rattle.same.specs.Same.{Tells}
+use Rattle.sheet.specs.Sheet.{sheetOf, sheetList}
+use Rattle.loader.specs.Entry.{flagged}
+use Rattle.loader.specs.Events.{anyRules}
+
+-- Reading
+
+-- why reading stopped, as a number: 0 at the end, 255 full, else the refusal's number
+abbrev pub stopNumber : Stop → ℕ
+stopNumber ended = 0
+stopNumber full = 255
+stopNumber (stopped n) = n
+
+-- the list at a place, by a flag
+abbrev pub listGiven : ℕ → ℕ → List ℕ → ℕ → ListAt
+listGiven strict running bytes at = listAt (flagged strict) capacity running bytes at
+
+-- its rows, put into the cells from the first on; 20 where the cells are too few
+abbrev pub sheetPut : ListAt → List ℕ → Written
+sheetPut l cells = put (sheetOf (l .events)) cells 0
+
+abbrev pub readOr : ℕ → Answer ℕ → ℕ
+readOr stop (gives n) = stop
+readOr stop (refuses n) = n
+
+-- the answer: why reading stopped, or 20
+abbrev pub readAnswer : ListAt → List ℕ → ℕ
+readAnswer l cells = readOr (stopNumber (l .stop)) (sheetPut l cells .answer)
+
+-- Writing
+
+abbrev pub sizeTaken : ℕ → List ℕ → Answer Held → ListSize
+sizeTaken running payload (gives h) = sizeList anyRules capacity running payload (h .records) (h .count)
+sizeTaken running payload (refuses n) = unsized running n 0
+
+-- how long the bytes of so many rows' events are; document 01: 1, 21, then 20 where the cells are too few for the count, then the first illegal event
+unfoldable pub sheetSize : ℕ → List ℕ → List ℕ → ℕ → ListSize
+sheetSize running payload cells count =
+    pick (isRunning running) (sizeTaken running payload (sheetList capacity cells count)) (unsized running 1 0)
+
+abbrev pub writtenTaken : ℕ → List ℕ → List ℕ → Answer Held → ListWritten
+writtenTaken running payload buffer (gives h) = writeList anyRules capacity running payload (h .records) (h .count) buffer
+writtenTaken running payload buffer (refuses n) = listLeft running buffer n 0
+
+-- what writing so many rows' events leaves; document 01: in that order, then 20 where there is no room
+unfoldable pub sheetWritten : ℕ → List ℕ → List ℕ → ℕ → List ℕ → ListWritten
+sheetWritten running payload cells count buffer =
+    pick (isRunning running) (writtenTaken running payload buffer (sheetList capacity cells count)) (listLeft running buffer 1 0)
+
+-- the answer: 0 where it is accepted, else the refusal's number
+abbrev pub numberAnswered : ListAnswer → ℕ
+numberAnswered (wrote n) = 0
+numberAnswered (refusesAt n i) = n
+
+-- the length at the end; after a refusal, what was held
+abbrev pub lengthLeft : ListAnswer → ℕ → ℕ
+lengthLeft (wrote n) held = n
+lengthLeft (refusesAt n i) held = held
+
+-- the index at the end: of the first illegal event, 0 for 1, 20, 21; where it is accepted, what was held
+abbrev pub indexLeft : ListAnswer → ℕ → ℕ
+indexLeft (wrote n) held = held
+indexLeft (refusesAt n i) held = i
+
+-- Sameness
+
+-- yes 1, no 0
+abbrev pub yes : Bool → ℕ
+yes told = pick told 1 0
+
+-- a number tells whether a rule holds: 1 where it does, 0 where it does not
+abbrev pub Told : ℕ → Type 0 → Type 0
+Told r Rule = (told : Bool) × ((r ≡ yes told) × Tells told Rule)
+
+-- of two sheets: document 01's rule, where both are lists; else the number of the first that is none
+abbrev pub SheetsTold : ℕ → List ℕ → Answer Held → List ℕ → Answer Held → Type 0
+SheetsTold r s (gives a) t (gives b) = Told r (SameList s (a .records) (a .count) t (b .records) (b .count))
+SheetsTold r s (gives a) t (refuses n) = r ≡ n
+SheetsTold r s (refuses m) t (gives b) = r ≡ m
+SheetsTold r s (refuses m) t (refuses n) = r ≡ m
