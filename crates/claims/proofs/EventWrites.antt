@@ -2,7 +2,7 @@
 use mathlib.Core.Path.{_≡_, refl, sym, ap, _∙_, subst}
 use mathlib.Core.Bool.{true}
 use mathlib.Core.List.{List, _++_, append-assoc}
-use Prim.Native.Nat.{ℕ, _+_, _≤_, _<_}
+use Prim.Native.Nat.{ℕ, _+_, _≤_}
 use native.Mathlib.Omega.{arith}
 use lib.Dec.{leb}
 use lib.ListN.{length, take, drop, length-append}
@@ -20,7 +20,7 @@ use Rattle.smf.proofs.Write.{length-over}
 use Rattle.smf.proofs.Event.{legal-exactly}
 use Rattle.writing.proofs.Wrote.{event-some}
 use Rattle.claims.specs.Table.{By, ofLegality, ofWriting}
-use Rattle.claims.specs.Leaves.{EventRefused, EventAccepted, EventLeaves}
+use Rattle.claims.specs.Leaves.{EventRefused, EventLeaves}
 use Rattle.claims.proofs.Refusals.{one-of-more, legal-by}
 
 -- bytes over a part of a buffer: those before and those beyond stay

@@ -1,6 +1,6 @@
 -- Two answers that a promise permits say the same, and no two answers say the same: so they are one.
 use mathlib.Core.Path.{_≡_, sym, ap, _∙_}
-use mathlib.Core.List.{List, [], _∷_}
+use mathlib.Core.List.{List}
 use Prim.Native.Nat.{ℕ}
 use lib.ListN.{getD}
 use Rattle.smf.specs.Write.{Written}

@@ -1,5 +1,5 @@
 -- By which numbers an event is refused, and the running status that each leaves: the definition, walked in byte order.
-use mathlib.Core.Path.{_≡_, refl, sym, ap, _∙_, subst}
+use mathlib.Core.Path.{_≡_, refl, _∙_, subst}
 use mathlib.Core.Bool.{Bool, true, false}
 use mathlib.Core.List.{List, [], _∷_}
 use Prim.Native.Nat.{ℕ}
@@ -10,10 +10,10 @@ use Rattle.smf.specs.Running.{isRunning}
 use Rattle.smf.specs.Number.{Numeral, readNumber}
 use Rattle.smf.specs.Payload.{Payload, readPayload}
 use Rattle.smf.specs.Wire.{Raw, one, two, system, typed, RawEvent, Taken, Reading, reads, refused, dataLength, readOne, readTwo, readChannel, withPayload, readMeta, readStatus, readBody, afterDelta, readRaw, runningAfter}
-use Rattle.smf.specs.Kind.{Kind, Meta, calledMeta, called, meta}
+use Rattle.smf.specs.Kind.{Meta, calledMeta, called, meta}
 use Rattle.smf.specs.Event.{Event, EventAt, named, nameRaw, readEvent, eventAt}
 use Rattle.smf.proofs.Answer.{pick-both, pick-test}
-use Rattle.smf.proofs.Event.{Reached, EventReached, event-reached}
+use Rattle.smf.proofs.Event.{EventReached, event-reached}
 use Rattle.claims.specs.Table.{OneOf, By, ofNumber, ofPayload, ofEvent}
 use Rattle.claims.specs.Stands.{statusOf, leaves, EventOrLeft}
 use Rattle.claims.proofs.Refusals.{allAmong, one-of-more, one-of, ofName, read-number-by, read-payload-by, called-meta-by}

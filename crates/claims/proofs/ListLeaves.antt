@@ -1,18 +1,18 @@
 -- What measuring and writing a list leave where they are refused: by which number, at which index, and nothing changed.
-use mathlib.Core.Path.{_≡_, refl, sym, ap, _∙_, subst}
+use mathlib.Core.Path.{_≡_, refl, sym, ap, _∙_}
 use mathlib.Core.Bool.{true, false, true≢false}
 use mathlib.Core.List.{List, [], _∷_}
-use Prim.Native.Nat.{ℕ, _≤_, _<_}
+use Prim.Native.Nat.{ℕ, _<_}
 use native.Mathlib.Omega.{arith}
 use lib.Dec.{leb}
-use lib.ListN.{length, take, drop, getD, length-take, length-drop}
+use lib.ListN.{length, take, getD, length-take, length-drop}
 use lib.Seq.{take-take, getD-take, drop-cons}
-use Rattle.smf.specs.Answer.{Answer, gives, refuses, Rules}
+use Rattle.smf.specs.Answer.{Rules}
 use Rattle.smf.specs.Running.{isRunning}
 use Rattle.smf.specs.Place.{Span}
-use Rattle.smf.specs.Event.{Event, legal}
-use Rattle.smf.specs.Lists.{filler, Checked, allLegal, illegal, check, encodeList, wrote, refusesAt, ListSize, sizeChecked, sizeList, ListWritten, listPut, writeChecked, writeList}
-use Rattle.smf.proofs.Answer.{pick-test, pick-both, said-refused}
+use Rattle.smf.specs.Event.{Event}
+use Rattle.smf.specs.Lists.{filler, Checked, allLegal, illegal, check, encodeList, ListSize, sizeChecked, sizeList, ListWritten, listPut, writeChecked, writeList}
+use Rattle.smf.proofs.Answer.{pick-both, said-refused}
 use Rattle.smf.proofs.Checks as checks
 use Rattle.smf.proofs.Checks.{check-illegal}
 use Rattle.claims.specs.Table.{among, OneOf, By, ofLegality, ofListLength, ofListWriting}

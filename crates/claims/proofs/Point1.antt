@@ -5,13 +5,11 @@ use mathlib.Core.List.{List, [], _∷_, map}
 use Prim.Native.Nat.{ℕ}
 use lib.Ieee.{binary32, binary64}
 use denote.Ref.{now}
-use Rattle.smf.specs.Answer.{pick, Answer, gives, refuses, andThen}
-use Rattle.smf.specs.Running.{isRunning}
+use Rattle.smf.specs.Answer.{Answer}
 use Rattle.smf.specs.Write as smf
 use Rattle.smf.specs.Write.{numberBytes, payloadBytes}
 use Rattle.smf.specs.Event.{EventWritten}
 use Rattle.smf.specs.Lists.{ListAt, listAt, heldAs, ListSize, ListWritten}
-use Rattle.smf.proofs.Answer.{pick-both}
 use Rattle.number.specs.Refusal.{numberOf}
 use Rattle.number.specs.Rules.{rulesOf}
 use Rattle.number.specs.declared.rules.Rules.{Rules}

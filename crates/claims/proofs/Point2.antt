@@ -6,15 +6,15 @@ use Prim.Native.Nat.{ℕ, _+_, _-_, _≤_}
 use native.Mathlib.Omega.{arith}
 use lib.ListN.{length, drop, getD, length-append}
 use borrow.Author.Tests.{le-leb}
-use Rattle.smf.specs.Answer.{Answer, gives, refuses, andThen, Rules}
+use Rattle.smf.specs.Answer.{gives, Rules}
 use Rattle.smf.specs.Running.{isRunning}
-use Rattle.smf.specs.Number.{isNumber, valueFrom, ahead, numberFrom, readNumber, numeral}
+use Rattle.smf.specs.Number.{isNumber, valueFrom, numberFrom, readNumber, numeral}
 use Rattle.smf.specs.Payload.{payloadAfter, readPayload}
 use Rattle.smf.specs.Place.{NumberAt, Span, numberAt}
-use Rattle.smf.specs.Write.{put, write}
+use Rattle.smf.specs.Write.{put}
 use Rattle.smf.specs.Wire.{dataLength, readOne, readTwo, readChannel, readMeta, readStatus, readBody, afterDelta, readRaw}
 use Rattle.smf.specs.Kind.{messageTwo, isText, calledMeta, called, noteOn, tempo, Kind, midi, meta}
-use Rattle.smf.specs.Event.{Event, event, mapMeta, mapKind, mapEvent, bytesOf, named, nameRaw, readEvent, legal, encodeEvent, eventBytes, writeEvent, Same}
+use Rattle.smf.specs.Event.{Event, event, mapMeta, mapKind, mapEvent, named, nameRaw, readEvent, legal, encodeEvent, eventBytes, writeEvent, Same}
 use Rattle.smf.specs.Lists.{goOn, readMore, readList, ListAt, listAt, filler, ended, ListHeld, holding, heldAs}
 use Rattle.smf.proofs.Answer.{said-of}
 use Rattle.smf.proofs.Number.{smf-read, smf-number}

@@ -1,15 +1,14 @@
 -- Point 3, proved of whatever the promises permit: what they say is the definitions', of which it holds.
 use mathlib.Core.Path.{_≡_, refl, sym, ap, _∙_, subst}
-use mathlib.Core.Bool.{true}
-use mathlib.Core.List.{List, [], _++_, map}
-use Prim.Native.Nat.{ℕ, _+_, _-_, _≤_}
+use mathlib.Core.List.{List, _++_, map}
+use Prim.Native.Nat.{ℕ, _+_, _-_}
 use native.Mathlib.Omega.{arith}
-use lib.ListN.{length, take, drop, replicate, length-map, length-take}
+use lib.ListN.{length, take, replicate, length-map}
 use lib.Seq.{take-append-seam, length-take-le}
 use Rattle.smf.specs.Answer.{Rules, strictOf, gives}
 use Rattle.smf.specs.Place.{Span}
 use Rattle.smf.specs.Event.{Event, mapEvent, bytesOf, Same, encodeEvent, EventWritten, writeEvent}
-use Rattle.smf.specs.Lists.{readList, eventsOf, listed, ListAt, listAt, filler, holding, heldAs, ListHeld, wrote, ListWritten, writeList, counted}
+use Rattle.smf.specs.Lists.{listed, ListAt, listAt, filler, holding, heldAs, ListHeld, wrote, ListWritten, writeList, counted}
 use Rattle.smf.proofs.Event as smf
 use Rattle.smf.proofs.Lists.{list-ended}
 use Rattle.smf.proofs.ListPlaces.{list-reached}

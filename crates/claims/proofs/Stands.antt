@@ -1,7 +1,7 @@
 -- The list at a place is the events that stand there, one behind the other, and stops for the reason that it gives.
 use mathlib.Core.Path.{_≡_, refl, sym, ap, _∙_, subst}
 use mathlib.Core.Bool.{true, false, true≢false}
-use mathlib.Core.List.{List, []}
+use mathlib.Core.List.{List}
 use Prim.Native.Nat.{ℕ, zero, suc, _+_, _≤_, _<_}
 use native.Mathlib.Omega.{arith}
 use lib.ListN.{length, drop}
@@ -14,7 +14,7 @@ use Rattle.smf.specs.Lists.{Stop, ended, full, stopped, ListAt, listPlaced, rea
 use Rattle.smf.proofs.Answer.{by-test, by-lt}
 use Rattle.smf.proofs.Place.{site-begun}
 use Rattle.smf.proofs.Reading.{event-invalid}
-use Rattle.smf.proofs.ListPlaces.{inFront, stopsThere, list-begun, list-invalid, more-end, more-full, more-refused, more-step, more-next}
+use Rattle.smf.proofs.ListPlaces.{inFront, list-begun, list-invalid, more-end, more-full, more-refused, more-step, more-next}
 use Rattle.claims.specs.Stands.{EventOrLeft, Stand, none, next, Why, ListStands}
 use Rattle.claims.proofs.Left.{event-or-left}
 

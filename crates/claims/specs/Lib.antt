@@ -3,9 +3,10 @@ pub mod Calls
 pub mod Table
 pub mod Stands
 pub mod Leaves
-pub mod Point1
 pub mod Worked
 pub mod Shortest
+pub mod Identical
+pub mod Point1
 pub mod Point2
 pub mod Point3
-pub mod Identical
+pub mod All

@@ -10,8 +10,8 @@ use Rattle.smf.specs.Running.{isRunning}
 use Rattle.smf.specs.Number.{isNumber, valueFrom}
 use Rattle.smf.specs.Place.{NumberAt, Span}
 use Rattle.smf.specs.Write.{over}
-use Rattle.smf.specs.Event.{Event, mapEvent, bytesOf, eventAt, legal, encodeEvent, EventWritten, writeEvent, Same}
-use Rattle.smf.specs.Lists.{listAt, filler, heldAs, ended, ListHeld, eventAfter}
+use Rattle.smf.specs.Event.{Event, eventAt, legal, encodeEvent, EventWritten, writeEvent, Same}
+use Rattle.smf.specs.Lists.{listAt, filler, heldAs, ended, eventAfter}
 use Rattle.number.specs.Rules.{rulesOf}
 use Rattle.number.specs.Varlen.{numberRead}
 use Rattle.number.specs.declared.rules.Rules.{Rules}
@@ -77,7 +77,7 @@ pub record Point2 : Type 0 where
   -- and strictly, nothing else is read as a number
   pub smf-only : ReadU7 (λ raw at rules r. (m : NumberAt) → rules .strict ≡ true → numberRead r ≡ gives m
       → (n : List ℕ) × (isNumber 4 n ≡ true) × (m .value ≡ valueFrom 0 n) × (drop at raw ≡ n ++ drop (m .next) raw))
-  -- what is shut out
+  -- what is shut out, by whatever rules is read
   pub two-events : EventListRead (λ raw at running rules r. raw ≡ p1 ++ p2 → at ≡ 0 → running .status ≡ 0 → TwoEvents raw r)
   pub other-event : EventListRead (λ raw at running rules r. raw ≡ p1 → at ≡ 0 → running .status ≡ 0
       → (listRead r .list .count ≡ 1) × EventListRead (OtherEvent raw r))
