@@ -1,0 +1,294 @@
+/* Apkarewe: reading and writing the events of MIDI tracks, for C and C++.
+ *
+ * To build. `tools/native apkarewe.o` proves the entries and writes them as one object file for the machine at hand,
+ * x86-64 or aarch64; link it with your program, gcc -Iinclude program.c apkarewe.o. Only 64-bit little-endian machines:
+ * the proofs take size_t to be 64 bits wide. example/track.c is a program that reads a track, prints it and writes it
+ * back.
+ *
+ * What it needs. No heap, no files, nothing of libc but memcpy, memmove and memset. Nothing is kept between calls, so
+ * that calls from several threads do not meet. The stack, as measured on aarch64: 17 KB for apk_list_read, 21 for
+ * apk_list_length, 27 for apk_list_write, 37 for apk_list_same, under 1 KB for the others.
+ *
+ * What an entry answers. A uint8_t: 0 where it accepts, else the number of a refusal (enum apk_answer). An entry that
+ * refuses nothing answers its value. After a refusal every value and every byte that was lent is as it came, unless
+ * the entry says otherwise.
+ *
+ * Pointers. A slice is a pointer and a length in elements. A pointer is never NULL, also not where the length is 0.
+ * What an entry may write overlaps with nothing else that the same call is lent. `strict` is a flag: 0 lenient,
+ * anything else strict. A place is an index into the bytes lent; one past their end is like their end.
+ *
+ * The running status is the status byte that the next event may leave out: 0x80 to 0xEF, or 0 for none. A track begins
+ * with none.
+ *
+ * What is proved. Of each entry, for all numbers and bytes that it can be given: it ends, it reads and writes within
+ * the slices only, its answer is the one that its definition gives, and so is what each lent value and each lent byte
+ * holds at the end, after a refusal too. The definition is named with each entry; the definitions stand in
+ * crates/smf/specs and in the specs of the crates loader, rows, sheet and loader_lists, and are written from Standard
+ * MIDI Files 1.0 and document 01, not from the code. Proved of the definitions: what is written is read back, strictly
+ * and leniently, whatever follows it; every event that is read is legal; no bytes that are read strictly as an event
+ * are shorter than those that are written for it. Not proved, but compared in runs: that midly 0.5.3 answers alike
+ * (docs/DIFFERENCES.md). Assumed: Rattle's prover and compiler, LLVM, and that the caller keeps to "Pointers" above. */
+#ifndef APKAREWE_H
+#define APKAREWE_H
+
+#include <stddef.h>
+#include <stdint.h>
+
+#ifdef __cplusplus
+extern "C" {
+#endif
+
+/* What entries answer: document 01's table of refusals, and the two that are none. */
+enum apk_answer {
+    APK_ACCEPTED = 0,
+    APK_RUNNING_STATUS = 1,       /* running status neither none (0) nor 80..EF */
+    APK_NUMBER_CUT_OFF = 2,       /* strict: a number cut off by the end */
+    APK_NUMBER_CONTINUES = 3,     /* strict: fourth byte of a number continues */
+    APK_NO_STATUS = 4,            /* no byte where the status stands */
+    APK_NO_RUNNING_STATUS = 5,    /* data byte there, no running status */
+    APK_SYSTEM_COMMON = 6,        /* status F1..F6 */
+    APK_SYSTEM_REALTIME = 7,      /* status F8..FE */
+    APK_CHANNEL_DATA_SHORT = 8,   /* channel data too short */
+    APK_CHANNEL_DATA_TOP_BIT = 9, /* channel data byte with bit 7 set */
+    APK_NO_META_TYPE = 10,        /* no meta type byte */
+    APK_PAYLOAD_CUT_OFF = 11,     /* strict: payload cut off */
+    APK_CHANNEL_OR_PORT = 12,     /* strict: channel above 15 or port above 127 */
+    APK_SMPTE_TIME = 13,          /* SMPTE time outside its ranges, also when one is built or its position or seconds
+                                     asked */
+    APK_KEY_SIGNATURE_SHORT = 14, /* key signature under two bytes */
+    APK_NO_SUCH_FORMAT = 15,      /* format above 2 */
+    APK_NO_SUCH_RATE = 16,        /* no such rate */
+    APK_HEADER_FIELD_SHORT = 17,  /* header field under two bytes */
+    APK_ABOVE_WIDTH = 18,         /* write: a restricted field above its width, or SMPTE time outside its ranges; also a
+                                     bend's value asked of a number above its width */
+    APK_PAYLOAD_OUTSIDE = 19,     /* write: payload range not inside the payload bytes; start beyond the end counts even
+                                     at length 0 */
+    APK_NO_ROOM = 20,             /* write: no room; of lists also: cells too few for the rows */
+    APK_TOO_MANY_EVENTS = 21,     /* write: count above 128 */
+    APK_PAYLOAD_TOO_LONG = 22,    /* write: payload above 268,435,455 bytes */
+    APK_UNKNOWN_NAMED = 23,       /* write: Unknown that would read as a named kind or be refused as 59 */
+    APK_FULL = 255                /* apk_list_read alone: 128 events read, and bytes left. No refusal */
+};
+
+/* An event is a row of ten cells. */
+enum apk_cell {
+    APK_DELTA = 0,  /* ticks since the event before, 0 to 268,435,455 */
+    APK_KIND = 1,   /* enum apk_kind */
+    APK_A = 2,      /* six fields, by the kind; those that a kind does not have are 0, and not looked at in writing */
+    APK_B = 3,
+    APK_C = 4,
+    APK_D = 5,
+    APK_E = 6,
+    APK_F = 7,
+    APK_START = 8,  /* where the payload starts in the bytes, and how long it is; 0 and 0 for kinds that have none */
+    APK_LENGTH = 9,
+    APK_CELLS = 10  /* how many cells a row has */
+};
+
+/* A list is so many rows, one behind the other, from the first cell on. */
+enum { APK_LIST_ROWS = 128, APK_LIST_CELLS = 1280 };
+
+/* The kinds: a channel message by the upper half of its status, a meta message by 0x100 and its type. */
+enum apk_kind {
+    APK_NOTE_OFF = 8,               /* A channel 0..15, B key 0..127, C velocity 0..127 */
+    APK_NOTE_ON = 9,                /* the same; velocity 0 stays a note-on */
+    APK_AFTERTOUCH = 10,            /* the same */
+    APK_CONTROLLER = 11,            /* A channel, B controller 0..127, C value 0..127 */
+    APK_PROGRAM_CHANGE = 12,        /* A channel, B program 0..127 */
+    APK_CHANNEL_AFTERTOUCH = 13,    /* A channel, B velocity 0..127 */
+    APK_PITCH_BEND = 14,            /* A channel, B raw bend 0..16,383; apk_bend_as_int makes it signed */
+    APK_SYSEX = 0xF0,               /* payload */
+    APK_ESCAPE = 0xF7,              /* payload */
+    APK_TRACK_NUMBER = 0x100,       /* A 1 where there is a number, else 0; B the number 0..65,535 */
+    APK_TEXT = 0x101,               /* payload; so the others up to APK_DEVICE_NAME */
+    APK_COPYRIGHT = 0x102,
+    APK_TRACK_NAME = 0x103,
+    APK_INSTRUMENT_NAME = 0x104,
+    APK_LYRIC = 0x105,
+    APK_MARKER = 0x106,
+    APK_CUE_POINT = 0x107,
+    APK_PROGRAM_NAME = 0x108,
+    APK_DEVICE_NAME = 0x109,
+    APK_MIDI_CHANNEL = 0x120,       /* A channel 0..15 */
+    APK_MIDI_PORT = 0x121,          /* A port 0..127 */
+    APK_END_OF_TRACK = 0x12F,       /* no field; it does not stop a list */
+    APK_TEMPO = 0x151,              /* A microseconds in a beat, 0..16,777,215 */
+    APK_SMPTE_OFFSET = 0x154,       /* A hour, B minute, C second, D frame, E subframe, F rate */
+    APK_TIME_SIGNATURE = 0x158,     /* A numerator, B denominator as a power of two, C clocks in a click, D 32nd notes
+                                       in a beat */
+    APK_KEY_SIGNATURE = 0x159,      /* A sharps, as a byte in two's complement (0xFE: two flats); B 1 minor, 0 major */
+    APK_SEQUENCER_SPECIFIC = 0x17F, /* payload */
+    APK_UNKNOWN = 0x200             /* A the type byte; payload */
+};
+
+/* Lists ---------------------------------------------------------------------------------------------------------- */
+
+/* Reads the list of events at a place, from a running status: at most 128.
+ *   rows, cells  where the rows go, from rows[0] on; APK_LIST_CELLS cells are always enough. Cells behind the rows stay
+ *   count        how many events were read
+ *   place        the place of the next unread byte; after a refusal, of the refused event
+ *   after        the running status there
+ * Answers why it stopped: 0 at the end of the bytes; APK_FULL, and the list goes on at *place from *after; 1 to 14
+ * where an event was refused, and the events before it stand: rows, count, place and after are set as ever. 20 where
+ * the cells are too few for the events read, and only then everything is as it came.
+ * Payloads are start and length in these bytes, which are not copied. An empty slice is an empty list.
+ * Definition: listAt of smf, laid out by sheetOf of sheet. */
+uint8_t apk_list_read(const uint8_t *bytes, size_t bytes_len, size_t at, uint8_t running, uint8_t strict,
+                      uint64_t *rows, size_t cells, size_t *count, size_t *place, uint8_t *after);
+
+/* How many bytes so many rows have when written from a running status.
+ *   rows, cells           the rows; those past the count are not looked at
+ *   payload, payload_len  the bytes that the rows' starts and lengths speak of: those that the list was read from
+ *   length                how many bytes; as it came after a refusal
+ *   after                 the running status after them; after a refusal, as given
+ *   index                 after a refusal the index of the first illegal event, 0 for 1, 20 and 21; else as it came
+ * Refuses 1, then 21, then 20 where the cells are too few for the count, then the first illegal event by 18, 19, 22 or
+ * 23. A row that is no event's (no such kind, or a field that no event can hold) is refused by 18.
+ * Definition: sheetSize of loader_lists, sizeList of smf. */
+uint8_t apk_list_length(const uint64_t *rows, size_t cells, size_t count, const uint8_t *payload, size_t payload_len,
+                        uint8_t running, size_t *length, uint8_t *after, size_t *index);
+
+/* Writes so many rows from out[0] on, in the shortest form, as apk_list_length measures them.
+ *   out, out_len  where the bytes go; nothing behind them is changed, and after a refusal nothing at all
+ * The rest, and the refusals, as there; last of all 20 where out is too short. An empty list fits in no bytes.
+ * Definition: sheetWritten of loader_lists, writeList of smf. */
+uint8_t apk_list_write(const uint64_t *rows, size_t cells, size_t count, const uint8_t *payload, size_t payload_len,
+                       uint8_t running, uint8_t *out, size_t out_len, size_t *length, uint8_t *after, size_t *index);
+
+/* Whether two lists are the same, each over the bytes that its payloads stand in: counts, deltas, kinds, fields and
+ * payload bytes agree; where payloads start does not count. Answers 1 the same, 0 not; 21 where a count is above 128,
+ * 20 where the cells are too few for it, of the first list before the second. A row that is no event's is like every
+ * other such row. Definition: SameList of smf. */
+uint8_t apk_list_same(const uint64_t *rows_a, size_t cells_a, size_t count_a,
+                      const uint8_t *bytes_a, size_t bytes_a_len,
+                      const uint64_t *rows_b, size_t cells_b, size_t count_b,
+                      const uint8_t *bytes_b, size_t bytes_b_len);
+
+/* Single events -------------------------------------------------------------------------------------------------- */
+
+/* Reads the event at a place, from a running status: its row, how many bytes it uses, the running status after it.
+ * Refuses 1 to 14; then the row is as it came, *used is 0, and *after the running status that the refused event leaves:
+ * as given for 1, 4 to 7, and for 2 and 3 in a delta; its own status for 8 and 9; none for the others.
+ * Definition: eventAt of smf, laid out by eventRow of rows. */
+uint8_t apk_event_read(const uint8_t *bytes, size_t bytes_len, size_t at, uint8_t running, uint8_t strict,
+                       uint64_t row[10], size_t *used, uint8_t *after);
+
+/* How many bytes a row's event has when written from a running status, and the running status after it.
+ * Refuses 1, 18, 19, 22, 23; then both are as they came. Definition: rowSize of loader. */
+uint8_t apk_event_length(const uint64_t row[10], const uint8_t *payload, size_t payload_len, uint8_t running,
+                         size_t *length, uint8_t *after);
+
+/* Writes a row's event at a place of out, in the shortest form: *next is the place after it, *after the running status.
+ * Refuses 1, 18, 19, 22, 23, 20; then every byte and *next are as they came, and *after is the running status as given.
+ * Definition: writeEvent of smf. */
+uint8_t apk_event_write(const uint64_t row[10], const uint8_t *payload, size_t payload_len, uint8_t running,
+                        uint8_t *out, size_t out_len, size_t at, size_t *next, uint8_t *after);
+
+/* Whether two events are the same, by the rule of apk_list_same. Answers 1 the same, 0 not. Definition: Same of smf. */
+uint8_t apk_event_same(const uint64_t row_a[10], const uint8_t *bytes_a, size_t bytes_a_len,
+                       const uint64_t row_b[10], const uint8_t *bytes_b, size_t bytes_b_len);
+
+/* Numbers and payloads ------------------------------------------------------------------------------------------- */
+
+/* Reads the variable-length number at a place: its value, and the place after it. Refuses 2, 3.
+ * Definition: numberAt. */
+uint8_t apk_number_read(const uint8_t *bytes, size_t bytes_len, size_t at, uint8_t strict,
+                        uint32_t *value, size_t *next);
+
+/* How many bytes the shortest form of a number has, 1 to 4; 4 above 268,435,455. Refuses nothing.
+ * Definition: the length of encodeNumber. */
+size_t apk_number_length(uint32_t value);
+
+/* Writes a number at a place of out, in the shortest form: *next is the place after it. Refuses 18, 20.
+ * Definition: write of numberBytes. */
+uint8_t apk_number_write(uint32_t value, uint8_t *out, size_t out_len, size_t at, size_t *next);
+
+/* Reads the payload at a place, a number and so many bytes: where these start, and how many. The place after them is
+ * the sum. Refuses 2, 3, 11. Definition: payloadAt. */
+uint8_t apk_payload_read(const uint8_t *bytes, size_t bytes_len, size_t at, uint8_t strict,
+                         size_t *start, size_t *length);
+
+/* Writes a range of the payload bytes, with its number in front, at a place of out: *next is the place after it.
+ * Refuses 19, 22, 20. Definition: write of payloadBytes. */
+uint8_t apk_payload_write(const uint8_t *payload, size_t payload_len, size_t start, size_t length,
+                          uint8_t *out, size_t out_len, size_t at, size_t *next);
+
+/* Header fields -------------------------------------------------------------------------------------------------- */
+
+/* The format that the bytes begin with, 0 to 2; what follows its two bytes is not looked at. Refuses 17, 15.
+ * Definition: readFormat. */
+uint8_t apk_format_read(const uint8_t *bytes, size_t bytes_len, uint8_t *format);
+
+/* The two bytes of a format. Refuses 15. Definition: formatBytes. */
+uint8_t apk_format_encode(uint8_t format, uint8_t bytes[2]);
+
+/* The timing that the bytes begin with. *rate 0: *ticks in a beat, *subframe 0. Any other rate: *subframe ticks in a
+ * frame, *ticks 0. Refuses 17, 16. Definition: readTiming. */
+uint8_t apk_timing_read(const uint8_t *bytes, size_t bytes_len, uint16_t *ticks, uint8_t *rate, uint8_t *subframe);
+
+/* The two bytes of a timing, given as it is read. Refuses 16, and 18 for ticks above 32,767.
+ * Definition: encodeTiming. */
+uint8_t apk_timing_encode(uint16_t ticks, uint8_t rate, uint8_t subframe, uint8_t bytes[2]);
+
+/* Rates and SMPTE times ------------------------------------------------------------------------------------------ */
+/* A rate is its number: 24, 25, 29 (30 drop frame), 30. A time is hour below 24, minute and second below 60, frame
+ * below the rate's number, subframe below 100, and the rate. Each entry that takes a time refuses 16 first. */
+
+/* The rate of a code's low two bits. Refuses nothing. Definition: rateOfCode. */
+uint8_t apk_fps_from_code(uint8_t code);
+
+/* The two-bit code of a rate. Refuses 16. Definition: codeOfRate. */
+uint8_t apk_fps_as_code(uint8_t rate, uint8_t *code);
+
+/* The rate of a whole number of frames in a second. Refuses 16. Definition: toRate. */
+uint8_t apk_fps_from_int(uint8_t raw, uint8_t *rate);
+
+/* The frames in a second at a rate, 30 / 1.001 for 29. Refuses 16. Definition: rateFloat. */
+uint8_t apk_fps_as_f32(uint8_t rate, float *frames);
+
+/* Whether six numbers are a time: 0 if so. Refuses 16, 13. Definition: toTime. */
+uint8_t apk_smpte_new(uint8_t hour, uint8_t minute, uint8_t second, uint8_t frame, uint8_t subframe, uint8_t rate);
+
+/* The time of a message's five bytes, the first of which holds hour and rate code: the six numbers. Refuses 13.
+ * Definition: timeOf. */
+uint8_t apk_smpte_read(uint8_t first, uint8_t minute, uint8_t second, uint8_t frame, uint8_t subframe, uint8_t time[6]);
+
+/* The five bytes of a time. Refuses 16, 18. Definition: encodeTime. */
+uint8_t apk_smpte_encode(uint8_t hour, uint8_t minute, uint8_t second, uint8_t frame, uint8_t subframe, uint8_t rate,
+                         uint8_t bytes[5]);
+
+/* A time's seconds, with frames and subframes as their fraction, without hours and minutes. Refuses 16, 13.
+ * Definition: secondsOf, operation for operation. */
+uint8_t apk_smpte_second_f32(uint8_t hour, uint8_t minute, uint8_t second, uint8_t frame, uint8_t subframe,
+                             uint8_t rate, float *seconds);
+
+/* A time's place in the day, in subframes. Refuses 16, 13. Definition: position. */
+uint8_t apk_smpte_position(uint8_t hour, uint8_t minute, uint8_t second, uint8_t frame, uint8_t subframe, uint8_t rate,
+                           uint32_t *subframes);
+
+/* Bends ---------------------------------------------------------------------------------------------------------- */
+/* A raw bend is 0 to 16,383, no bend at 8,192; signed, it is -8,192 to 8,191; as a float, that by 8,192, exactly. */
+
+/* The raw bends of full bend downwards, of none, and of full bend upwards. They refuse nothing. Definition: rawOf. */
+uint16_t apk_bend_min_raw_value(void);
+uint16_t apk_bend_mid_raw_value(void);
+uint16_t apk_bend_max_raw_value(void);
+
+/* The raw bend of a signed one; beyond the range the nearest end. Refuses nothing. Definition: rawOf. */
+uint16_t apk_bend_from_int(int16_t bend);
+
+/* The raw bend of a float: clamped to -1..1, times 8,192, the fraction dropped. NaN gives the lowest, 1.0 the highest.
+ * They refuse nothing. Definition: rawOfFloat. */
+uint16_t apk_bend_from_f32(float bend);
+uint16_t apk_bend_from_f64(double bend);
+
+/* A raw bend as a signed one, and as a float. Refuse 18. Definitions: askBend, askFloat. */
+uint8_t apk_bend_as_int(uint16_t raw, int16_t *bend);
+uint8_t apk_bend_as_f32(uint16_t raw, float *bend);
+uint8_t apk_bend_as_f64(uint16_t raw, double *bend);
+
+#ifdef __cplusplus
+}
+#endif
+
+#endif
