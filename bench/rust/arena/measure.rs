@@ -4,7 +4,11 @@ use super::{
     port,
     tracks::{self, Track},
 };
-use crate::{event::TrackEvent, io::Cursor, prelude::*};
+use crate::{
+    event::{MetaMessage, TrackEvent, TrackEventKind},
+    io::Cursor,
+    prelude::*,
+};
 use std::{hint::black_box, time::Instant};
 
 /// Turns of each; a turn is as many passes as take about this long.
@@ -84,6 +88,68 @@ fn port_write_events(rows: &[port::Row], bytes: &[u8], out: &mut [u8]) -> usize 
     at
 }
 
+// ---- lists of 128, continued; both sides clear their records before they read, and the port fills rows
+
+fn rust_lists(bytes: &[u8]) -> usize {
+    let (mut raw, mut running, mut count) = (bytes, None, 0);
+    let filler = TrackEvent { delta: 0.into(), kind: TrackEventKind::Meta(MetaMessage::EndOfTrack) };
+    while !raw.is_empty() {
+        let (mut records, mut n) = ([filler; port::CAPACITY], 0);
+        while n < port::CAPACITY && !raw.is_empty() {
+            match TrackEvent::read(&mut raw, &mut running) {
+                Ok(event) => records[n] = event,
+                Err(_) => return count + n,
+            }
+            n += 1;
+        }
+        black_box(&records);
+        count += n;
+    }
+    count
+}
+
+fn port_lists(bytes: &[u8]) -> usize {
+    let (mut at, mut running, mut count) = (0, 0, 0);
+    let mut rows = [[0; 10]; port::CAPACITY];
+    loop {
+        let (answer, n, place, after) = port::list_read(bytes, at, running, &mut rows);
+        black_box(&rows);
+        count += n;
+        at = place;
+        running = after;
+        if answer != port::FULL {
+            return count;
+        }
+    }
+}
+
+fn rust_write_lists(events: &[TrackEvent], out: &mut [u8]) -> usize {
+    let (mut running, mut at) = (None, 0);
+    for list in events.chunks(port::CAPACITY) {
+        let mut cursor = Cursor::new(&mut out[at..]);
+        for event in list {
+            if event.write(&mut running, &mut cursor).is_err() {
+                return at;
+            }
+        }
+        at += cursor.cursor();
+    }
+    at
+}
+
+fn port_write_lists(rows: &[port::Row], bytes: &[u8], out: &mut [u8]) -> usize {
+    let (mut running, mut at) = (0, 0);
+    for list in rows.chunks(port::CAPACITY) {
+        let (answer, length, after) = port::list_write(list, bytes, running, &mut out[at..]);
+        if answer != 0 {
+            return at;
+        }
+        at += length;
+        running = after;
+    }
+    at
+}
+
 // ---- what is printed
 
 fn line(what: &str, track: &Track, events: usize, (rust, port): (f64, f64)) {
@@ -139,6 +205,17 @@ fn one(track: &Track) {
         events.len(),
         seconds(|| rust_write_events(&events, &mut rust_out), || port_write_events(&rows, bytes, &mut port_out)),
     );
+    assert_eq!(rust_lists(bytes), port_lists(bytes));
+    line("read lists", track, events.len(), seconds(|| rust_lists(bytes), || port_lists(bytes)));
+    assert_eq!(end, rust_write_lists(&events, &mut rust_out));
+    assert_eq!(end, port_write_lists(&rows, bytes, &mut port_out));
+    assert!(rust_out[..end] == port_out[..end]);
+    line(
+        "write lists",
+        track,
+        events.len(),
+        seconds(|| rust_write_lists(&events, &mut rust_out), || port_write_lists(&rows, bytes, &mut port_out)),
+    );
 }
 
 pub fn run(folder: Option<String>) {
@@ -149,6 +226,10 @@ pub fn run(folder: Option<String>) {
     );
     for track in tracks::of_size(64 << 10) {
         one(&track);
+    }
+    println!("how cost grows");
+    for (name, size) in [("1 KB", 1 << 10), ("64 KB", 64 << 10), ("16 MB", 16 << 20)] {
+        one(&tracks::mixed(name, size));
     }
     for track in folder.iter().flat_map(|folder| tracks::of_folder(folder)) {
         one(&track);
