@@ -1,3 +1,14 @@
+pub mod Calls
+pub mod Refusals
+pub mod Left
+pub mod Stands
+pub mod EventWrites
+pub mod ListLeaves
 pub mod Worked
 pub mod Shortest
+pub mod Identical
+pub mod Point1
+pub mod Point2
 pub mod Point3
+pub mod Point3Calls
+pub mod All

@@ -1,4 +1,4 @@
--- Point 3, proved: what is written are the list's own bytes, which read back, and no bytes that read strictly as it are fewer.
+-- Point 3, proved of the definitions: what is written are the list's own bytes, which read back, and no bytes that read strictly as it are fewer.
 use mathlib.Core.Path.{_≡_, refl, sym, ap, _∙_}
 use mathlib.Core.Bool.{true}
 use mathlib.Core.List.{List}
@@ -14,7 +14,7 @@ use Rattle.smf.proofs.Write.{length-over}
 use Rattle.smf.proofs.Lists.{ReadsBack, list-reads-back, list-read, list-valid}
 use Rattle.smf.proofs.Checks.{all-legal}
 use Rattle.smf.proofs.ListWrites.{write-wrote, write-refused, write-fits, front-own, front-beyond}
-use Rattle.claims.specs.Point3.{ReadsStrictly, Fits, Accepted, Point3, Writes}
+use Rattle.claims.specs.Point3.{ReadsStrictly, Fits, Accepted, Written, Writes}
 
 module _ (rules : Rules) (most running : ℕ) (bytes : List ℕ) (records : List (Event Span)) (count : ℕ) where
   abbrev events : List (Event (List ℕ))
@@ -55,14 +55,7 @@ module _ (rules : Rules) (most running : ℕ) (bytes : List ℕ) (records : List
           beyond = rw (a .front, a .size) (front-beyond own buffer);
         }
 
-    -- accepted: the own bytes are bytes that fit
-    some-fit : (n : ℕ) → written .answer ≡ wrote n → Fits rules most running bytes records count buffer
-    some-fit n e =
-        let a = write-wrote rules most running bytes records count buffer n e in
-        let b = back (a .valid) (a .few) (a .legal) in
-        (a .few, a .legal, (own, omega (arith, a .size, a .room), record { events = b .events; all = b .stop }))
-
-    -- and where some fit, the own bytes do
+    -- where some bytes fit, the own bytes do
     own-fit : Fits rules most running bytes records count buffer → written .answer ≡ wrote (length own)
     own-fit f =
         let s = f .2 .0 in
@@ -70,8 +63,15 @@ module _ (rules : Rules) (most running : ℕ) (bytes : List ℕ) (records : List
         let room : length own ≤ length buffer = omega (arith, f .2 .1, fewer s r) in
         ap (λ (w : ListWritten). w .answer) (write-fits rules most running bytes records count buffer (valid s r) (f .0) (f .1) room)
 
-    point-3 : Point3 rules most running bytes records count buffer written
-    point-3 =
+    -- and where they are written, they are bytes that fit
+    some-fit : (n : ℕ) → written .answer ≡ wrote n → Fits rules most running bytes records count buffer
+    some-fit n e =
+        let a = write-wrote rules most running bytes records count buffer n e in
+        let b = back (a .valid) (a .few) (a .legal) in
+        (a .few, a .legal, (own, omega (arith, a .size, a .room), record { events = b .events; all = b .stop }))
+
+    says : Written rules most running bytes records count buffer written
+    says =
         record {
           accepts = ((λ w. some-fit (w .0) (w .1)), (λ f. (length own, own-fit f)));
           accepted = accepted;
@@ -79,4 +79,4 @@ module _ (rules : Rules) (most running : ℕ) (bytes : List ℕ) (records : List
         }
 
 pub writes : Writes
-writes rules most running bytes records count buffer = point-3 rules most running bytes records count buffer
+writes rules most running bytes records count buffer = says rules most running bytes records count buffer

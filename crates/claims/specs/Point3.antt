@@ -1,14 +1,27 @@
--- Point 3, of every list, capacity and buffer: a list is written exactly when it is legal and some bytes that fit read strictly as it;
--- what is written reads so, no bytes that do are fewer, and no other byte changes.
+-- Point 3, of every list and buffer: a list is written exactly when it is legal and some bytes that fit read strictly as it; what is written
+-- reads so, no bytes that do are fewer, and no other byte changes. No event's bytes begin with those of a different one.
 use mathlib.Core.Path.{_≡_}
-use mathlib.Core.List.{List}
+use mathlib.Core.Bool.{true}
+use mathlib.Core.List.{List, _++_, map}
 use mathlib.Core.Logic.{_↔_}
 use Prim.Native.Nat.{ℕ, _≤_}
 use lib.ListN.{length, take, drop}
-use Rattle.smf.specs.Answer.{Rules, strictOf}
+use Rattle.smf.specs.Answer.{gives, Rules, strictOf}
 use Rattle.smf.specs.Place.{Span}
-use Rattle.smf.specs.Event.{Event}
-use Rattle.smf.specs.Lists.{readList, ReadsAs, RecordsLegal, listed, wrote, refusesAt, ListWritten, writeList}
+use Rattle.smf.specs.Event.{Event, Same}
+use Rattle.smf.specs.Lists.{readList, ReadsAs, RecordsLegal, listed, ended, ListHeld, wrote, refusesAt, ListWritten, writeList, SameList}
+use Rattle.number.specs.Rules.{rulesOf}
+use Rattle.number.specs.declared.rules.Rules as number
+use Rattle.number.specs.declared.rules.Running.{Running}
+use Rattle.event.specs.Event.{eventOf}
+use Rattle.event.specs.declared.track_event.TrackEvent.{TrackEvent}
+use Rattle.writing.specs.Write.{wroteEvent}
+use Rattle.writing.specs.declared.write.WroteEvent.{WroteEvent}
+use Rattle.track.specs.Read.{listRead}
+use Rattle.track.specs.declared.list.EventList.{EventList}
+use Rattle.track.specs.declared.read.ReadList.{ReadList}
+use Rattle.compose.specs.Lengths.{wroteList}
+use Rattle.claims.specs.Calls.{EventListRead, WriteEvent, WriteList}
 
 module _ (rules : Rules) (most running : ℕ) (bytes : List ℕ) (records : List (Event Span)) (count : ℕ) where
   -- document 01: bytes that read strictly as the counted records, over their payload bytes
@@ -22,20 +35,62 @@ module _ (rules : Rules) (most running : ℕ) (bytes : List ℕ) (records : List
 
     -- document 01: an accepted write gives its length and the running status after it, and writes no byte beyond
     pub record Accepted (w : ListWritten) (n : ℕ) : Type 0 where
+      -- what is written reads strictly as the same events
       pub reads : ReadsStrictly (take n (w .buffer))
+      -- and ends in the same running status
       pub after : readList (strictOf rules) most running (take n (w .buffer)) .running ≡ w .running
+      -- no bytes that read strictly as them are fewer
       pub shortest : (s : List ℕ) → ReadsStrictly s → n ≤ length s
+      -- no byte beyond changes
       pub long : length (w .buffer) ≡ length buffer
       pub beyond : drop n (w .buffer) ≡ drop n buffer
 
-    -- what a write says of its answer, the buffer that it leaves and the running status after it; document 01: a refused one changes nothing
-    pub record Point3 (w : ListWritten) : Type 0 where
+    -- what a write says of its answer, the buffer that it leaves and the running status after it
+    pub record Written (w : ListWritten) : Type 0 where
+      -- it accepts exactly what fits
       pub accepts : ((n : ℕ) × (w .answer ≡ wrote n)) ↔ Fits
       pub accepted : (n : ℕ) → w .answer ≡ wrote n → Accepted w n
+      -- document 01: a refused one changes nothing
       pub refused : (n i : ℕ) → w .answer ≡ refusesAt n i → (w .buffer ≡ buffer) × (w .running ≡ running)
 
--- it holds of the definition, whatever it is given
+-- it holds of the definition, whatever it is given, and whatever a list may hold
 abbrev pub Writes : Type 0
 Writes =
     (rules : Rules) (most running : ℕ) (bytes : List ℕ) (records : List (Event Span)) (count : ℕ) (buffer : List ℕ)
-    → Point3 rules most running bytes records count buffer (writeList rules most running bytes records count buffer)
+    → Written rules most running bytes records count buffer (writeList rules most running bytes records count buffer)
+
+-- what a list was read as: to the end of so many bytes, to a running status, and the same as other records over their payload bytes
+pub record ReadBack (raw : List ℕ) (r : ListHeld) (n after : ℕ) (bytes : List ℕ) (records : List (Event Span)) (count : ℕ) : Type 0 where
+  pub stop : r .stop ≡ ended
+  pub place : r .place ≡ n
+  pub status : r .running ≡ after
+  pub same : SameList raw (r .list .records) (r .list .count) bytes records count
+
+-- a list that `write_list` wrote: what `EventList::read` reads of its bytes, strictly and from the same running status
+module _ (list : EventList) (running : Running) (bytes : List ℕ) (w : ListWritten) (n : ℕ) where
+  abbrev pub ReadAgain : List ℕ → ℕ → Running → number.Rules → ReadList → Type 0
+  ReadAgain raw at running′ rules r =
+      raw ≡ take n (w .buffer) → at ≡ 0 → running′ ≡ running → rules .strict ≡ true
+      → ReadBack raw (listRead r) n (w .running) bytes (map eventOf (list .records)) (list .count)
+
+-- an event whose bytes were written at the front of a buffer, and another whose bytes the first begin with
+module _ (e : TrackEvent) (running : Running) (bytes own : List ℕ) where
+  abbrev pub NeverBegins : TrackEvent → Running → number.Rules → List ℕ → List ℕ → ℕ → WroteEvent → List ℕ → Type 0
+  NeverBegins e′ running′ rules bytes′ out at r end =
+      (n : ℕ) (more : List ℕ) → at ≡ 0 → running′ ≡ running → wroteEvent (running′ .status) r end .written .answer ≡ gives n
+      → own ≡ take n end ++ more → Same bytes (eventOf e) bytes′ (eventOf e′)
+
+pub record Point3 : Type 0 where
+  -- `write_list`, of whatever its promise permits: a list of at most 128 events
+  pub writes : WriteList (λ list running rules bytes out r end.
+      Written (rulesOf rules) 128 (running .status) bytes (map eventOf (list .records)) (list .count) out (wroteList (running .status) r end))
+  -- what it writes, `EventList::read` reads strictly as the same list, all bytes used, and ends in the same running status; the array of
+  -- every list has 128 records
+  pub reads-back : WriteList (λ list running rules bytes out r end.
+      (n : ℕ) → wroteList (running .status) r end .answer ≡ wrote n → length (list .records) ≡ 128
+      → EventListRead (ReadAgain list running bytes (wroteList (running .status) r end) n))
+  -- `write_event`, twice from one running status, each time at the front of a buffer: where the bytes of one event begin with those of the
+  -- other, the events are the same, whatever bytes their payloads are in
+  pub prefix-free : WriteEvent (λ e running rules bytes out at r end.
+      (n : ℕ) → at ≡ 0 → wroteEvent (running .status) r end .written .answer ≡ gives n
+      → WriteEvent (NeverBegins e running bytes (take n end)))

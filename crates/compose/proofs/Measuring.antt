@@ -24,6 +24,10 @@ use Rattle.measure.specs.declared.length.Size.{Size}
 use Rattle.measure.specs.declared.length.EventLength.{EventLength}
 use Rattle.measure.specs.declared.length.EventLength.the-variants as event
 use Rattle.measure.proofs.Sized.{size-legal, sized-legal, sized-refused}
+use Rattle.event.specs.Event.{eventOf}
+use Rattle.event.specs.declared.track_event.TrackEvent.{TrackEvent}
+use Rattle.track.proofs.Held.{past}
+use Rattle.track.proofs.Counted.{counting, counted-length, counted-at}
 use Rattle.compose.proofs.Most.{most, event-most}
 
 -- an answer that is settled gave something
@@ -53,9 +57,9 @@ module _ (rules : Rules) (bytes : List ℕ) (running : ℕ) (es : List (Event Sp
       rw (check-given rules bytes 0 es (rw all at (h .legal)), h .size, h .after, all)
 
   module _ {n status i : ℕ} (h : Seen n status i) (more : i < length es) (d : Event Span) (a : EventLength) (said : lengthSaid a ≡ eventSize rules status bytes (getD es i d)) where
-    pub seen-illegal : (m : Refusal) → a ≡ event.Refused m → unsized running (numberOf m) i ≡ sizeChecked running (check rules bytes 0 es)
+    one-illegal : (m : Refusal) → a ≡ event.Refused m → unsized running (numberOf m) i ≡ sizeChecked running (check rules bytes 0 es)
     unfolding sizeChecked
-    seen-illegal m e =
+    one-illegal m e =
         let s = sized-refused rules bytes (getD es i d) status (numberOf m) (sym said ∙ ap lengthSaid e) in
         rw (legal-stops rules bytes es i d more (h .legal) (settled-refuses (legal rules bytes (getD es i d)) (numberOf m) s))
 
@@ -82,13 +86,13 @@ module _ (rules : Rules) (bytes : List ℕ) (running : ℕ) (es : List (Event Sp
       same-after : s .running .status ≡ eventAfter own
       same-after = ap (λ (x : measured.Size). x .running) same-size
 
-      pub seen-most : s .length ≤ most
+      one-most : s .length ≤ most
       unfolding own
-      seen-most = omega (arith, same-length, event-most status own (legal-exactly rules bytes (getD es i d) (lawful .0) .0 (lawful .1) .1))
+      one-most = omega (arith, same-length, event-most status own (legal-exactly rules bytes (getD es i d) (lawful .0) .0 (lawful .1) .1))
 
-      pub seen-more : Seen (n + s .length) (s .running .status) (i + 1)
+      one-more : Seen (n + s .length) (s .running .status) (i + 1)
       unfolding own
-      seen-more =
+      one-more =
           let next = encode-next bytes es d running i more in
           let grown : length (encodeList running (listed bytes es (i + 1))) ≡ length (encodeList running (listed bytes es i)) + length (encodeEvent status own) =
           ap length next ∙ length-append (encodeList running (listed bytes es i)) (encodeEvent (listAfter running (listed bytes es i)) own) ∙ rw (h .after)
@@ -97,5 +101,26 @@ module _ (rules : Rules) (bytes : List ℕ) (running : ℕ) (es : List (Event Sp
             legal = legal-more rules bytes es i d more (h .legal) (lawful .1);
             size = omega (arith, h .size, same-length, grown);
             after = same-after ∙ sym (after-next bytes es d running i more);
-            small = omega (arith, h .small, seen-most);
+            small = omega (arith, h .small, one-most);
           }
+
+-- the same of the records that the code holds, at the one that was measured
+module _ (rules : Rules) (bytes : List ℕ) (running : ℕ) (records : List TrackEvent) (count : ℕ) (long : count ≤ length records) {n status i : ℕ}
+    (h : Seen rules bytes running (counting records count) n status i)
+    (more : i < count)
+    (a : EventLength)
+    (said : lengthSaid a ≡ eventSize rules status bytes (eventOf (getD records i past))) where
+  inside : i < length (counting records count)
+  inside = omega (arith, counted-length records count long)
+
+  said-there : lengthSaid a ≡ eventSize rules status bytes (getD (counting records count) i (eventOf past))
+  said-there = said ∙ ap (eventSize rules status bytes) (sym (counted-at records count i more))
+
+  pub seen-illegal : (m : Refusal) → a ≡ event.Refused m → unsized running (numberOf m) i ≡ sizeChecked running (check rules bytes 0 (counting records count))
+  seen-illegal = one-illegal rules bytes running (counting records count) h inside (eventOf past) a said-there
+
+  pub seen-most : (s : Size) → a ≡ event.Length s → s .length ≤ most
+  seen-most = one-most rules bytes running (counting records count) h inside (eventOf past) a said-there
+
+  pub seen-more : (s : Size) → a ≡ event.Length s → Seen rules bytes running (counting records count) (n + s .length) (s .running .status) (i + 1)
+  seen-more = one-more rules bytes running (counting records count) h inside (eventOf past) a said-there

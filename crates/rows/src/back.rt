@@ -1,13 +1,13 @@
 // A row of ten numbers back as its event: the way back from `row`.
 // What a kind does not use of a row is not looked at. A row that is no event's becomes one that every writer refuses by 18.
 ghost use mathlib.Core.Path.{_≡_};
-ghost use Prim.Native.Nat.{_%_};
-ghost use Rattle.smf.specs.Kind as kind;
-ghost use Rattle.smf.specs.Smpte.{time};
+ghost use Prim.Native.Nat.{_-_, _%_};
+ghost use Rattle.smf.specs.Kind.{isText};
 ghost use Rattle.header.specs.Fps.{rateOf};
-ghost use Rattle.message.specs.Message.{messageOf, metaOf, spanOf};
+ghost use Rattle.header.specs.Smpte.{smpteTimeOf};
+ghost use Rattle.message.specs.Message.{messageOf, metaOf, numberMeta, spanOf};
 ghost use Rattle.event.specs.Event.{kindOf, eventOf};
-ghost use Rattle.rows.specs.RowEvent.{noEvent, held, areBytes, rowBend, rowNumber, rowTempo, rowKey, rowTime, rowStatus, rowText, rowMeta, rowEvent};
+ghost use Rattle.rows.specs.RowEvent.{byteOf, wordOf, areBytes, timeFits, rowFits, rowNumber, rowRate, rowTime, rowText, rowMessage, rowMeta, rowKind, fittingRow, rowEvent};
 use bend::PitchBend;
 use event::track_event::TrackEvent;
 use event::track_event::TrackEventKind;
@@ -23,25 +23,6 @@ use number::restricted::u14;
 use number::restricted::u24;
 use number::restricted::u28;
 use number::rules::Range;
-
-fn no_event() -> TrackEvent
-    ensures { λ r. ⌜ eventOf r ≡ noEvent ⌝ }
-{
-    TrackEvent {
-        delta: u28(0x1000_0000),
-        kind: TrackEventKind::Meta(MetaMessage::EndOfTrack),
-    }
-}
-
-// An event, where its fields are within what their integers hold.
-fn held(fits: bool, delta: u28, kind: TrackEventKind) -> TrackEvent
-    ensures { λ r. ⌜ eventOf r ≡ held fits (delta .0) (kindOf kind) ⌝ }
-{
-    if fits {
-        return TrackEvent { delta, kind };
-    }
-    no_event()
-}
 
 fn are_bytes(a: u64, b: u64, c: u64, d: u64, e: u64) -> bool
     ensures { λ r. ⌜ r ≡ areBytes a b c d e ⌝ }
@@ -61,9 +42,74 @@ fn are_bytes(a: u64, b: u64, c: u64, d: u64, e: u64) -> bool
     e < 256
 }
 
-// The byte that a number is, where it is one: `are_bytes` says.
+fn is_text(number: u64) -> bool
+    ensures { λ r. ⌜ r ≡ isText (number - 0x100) ⌝ }
+{
+    if number < 0x101 {
+        return false;
+    }
+    number < 0x10A
+}
+
+fn time_fits(a: u64, b: u64, c: u64, d: u64, e: u64, rate: u64) -> bool
+    ensures { λ r. ⌜ r ≡ timeFits a b c d e rate ⌝ }
+{
+    let bytes = are_bytes(a, b, c, d, e);
+    match rate {
+        24 => bytes,
+        25 => bytes,
+        29 => bytes,
+        30 => bytes,
+        _ => false,
+    }
+}
+
+// Whether the numbers that a kind uses are within what their integers hold.
+fn numbers_fit(delta: u64, number: u64, a: u64, b: u64, c: u64, d: u64, e: u64, f: u64) -> bool
+    ensures { λ r. ⌜ r ≡ rowFits delta number a b c d e f ⌝ }
+{
+    if 0x1_0000_0000 <= delta {
+        return false;
+    }
+    let two = are_bytes(a, b, c, 0, 0);
+    let one = are_bytes(a, b, 0, 0, 0);
+    match number {
+        8 => two,
+        9 => two,
+        10 => two,
+        11 => two,
+        12 => one,
+        13 => one,
+        14 => {
+            if 0x1_0000 <= b {
+                return false;
+            }
+            a < 256
+        }
+        0xF0 => true,
+        0xF7 => true,
+        0x100 => {
+            if a == 0 {
+                return true;
+            }
+            b < 0x1_0000
+        }
+        0x120 => a < 256,
+        0x121 => a < 256,
+        0x12F => true,
+        0x151 => a < 0x1_0000_0000,
+        0x154 => time_fits(a, b, c, d, e, f),
+        0x158 => are_bytes(a, b, c, d, 0),
+        0x159 => a < 256,
+        0x17F => true,
+        0x200 => a < 256,
+        _ => is_text(number),
+    }
+}
+
+// A number cut to its low bits: where it fits, it is not changed.
 fn byte(x: u64) -> u8
-    ensures { λ r. ⌜ r ≡ x % 256 ⌝ }
+    ensures { λ r. ⌜ r ≡ byteOf x ⌝ }
 {
     (x % 256) as u8
 }
@@ -77,203 +123,139 @@ fn load(start: u64, length: u64) -> Range
     }
 }
 
-fn midi(fits: bool, delta: u28, channel: u64, message: MidiMessage) -> TrackEvent
-    ensures { λ r. ⌜ eventOf r ≡ held fits (delta .0) (kind.midi (channel % 256) (messageOf message)) ⌝ }
-{
-    let channel = u4(byte(channel));
-    held(fits, delta, TrackEventKind::Midi { channel, message })
-}
-
-fn meta(fits: bool, delta: u28, message: MetaMessage) -> TrackEvent
-    ensures { λ r. ⌜ eventOf r ≡ held fits (delta .0) (kind.meta (metaOf message)) ⌝ }
-{
-    held(fits, delta, TrackEventKind::Meta(message))
-}
-
-fn bend_event(delta: u28, channel: u64, raw: u64) -> TrackEvent
-    ensures { λ r. ⌜ eventOf r ≡ rowBend (delta .0) channel raw ⌝ }
-{
-    if 0x1_0000 <= raw {
-        return no_event();
-    }
-    let bend = PitchBend(u14(raw as u16));
-    let fits = are_bytes(channel, 0, 0, 0, 0);
-    midi(fits, delta, channel, MidiMessage::PitchBend { bend })
-}
-
-fn number_event(delta: u28, there: u64, number: u64) -> TrackEvent
-    ensures { λ r. ⌜ eventOf r ≡ rowNumber (delta .0) there number ⌝ }
+fn track_number(there: u64, number: u64) -> OptionU16
+    ensures { λ r. ⌜ numberMeta r ≡ rowNumber there number ⌝ }
 {
     if there == 0 {
-        return meta(true, delta, MetaMessage::TrackNumber(OptionU16::None));
+        return OptionU16::None;
     }
-    if 0x1_0000 <= number {
-        return no_event();
-    }
-    let number = OptionU16::Some(number as u16);
-    meta(true, delta, MetaMessage::TrackNumber(number))
+    OptionU16::Some((number % 0x1_0000) as u16)
 }
 
-fn tempo_event(delta: u28, tempo: u64) -> TrackEvent
-    ensures { λ r. ⌜ eventOf r ≡ rowTempo (delta .0) tempo ⌝ }
+fn fps(rate: u64) -> Fps
+    ensures { λ r. ⌜ rateOf r ≡ rowRate rate ⌝ }
 {
-    if 0x1_0000_0000 <= tempo {
-        return no_event();
+    match rate {
+        24 => Fps::Fps24,
+        25 => Fps::Fps25,
+        29 => Fps::Fps29,
+        _ => Fps::Fps30,
     }
-    meta(true, delta, MetaMessage::Tempo(u24(tempo as u32)))
 }
 
-fn signature_event(delta: u28, a: u64, b: u64, c: u64, d: u64) -> TrackEvent
-    ensures { λ r. ⌜ eventOf r ≡ held (areBytes a b c d 0) (delta .0) (kind.meta (kind.timeSignature a b c d)) ⌝ }
+fn time(a: u64, b: u64, c: u64, d: u64, e: u64, rate: u64) -> SmpteTime
+    ensures { λ r. ⌜ smpteTimeOf r ≡ rowTime a b c d e rate ⌝ }
 {
-    let fits = are_bytes(a, b, c, d, 0);
-    meta(
-        fits,
-        delta,
-        MetaMessage::TimeSignature(byte(a), byte(b), byte(c), byte(d)),
-    )
-}
-
-// The sharps are a byte in two's complement.
-fn key_event(delta: u28, sharps: u64, minor: u64) -> TrackEvent
-    ensures { λ r. ⌜ eventOf r ≡ rowKey (delta .0) sharps minor ⌝ }
-{
-    let fits = are_bytes(sharps, 0, 0, 0, 0);
-    let signed = from_byte(byte(sharps));
-    if minor == 0 {
-        return meta(fits, delta, MetaMessage::KeySignature(signed, false));
-    }
-    meta(fits, delta, MetaMessage::KeySignature(signed, true))
-}
-
-// An SMPTE time at a rate.
-fn timed(delta: u28, a: u64, b: u64, c: u64, d: u64, e: u64, fps: Fps) -> TrackEvent
-    ensures { λ r. ⌜ eventOf r ≡ held (areBytes a b c d e) (delta .0) (kind.meta (kind.smpteOffset (time a b c d e (rateOf fps)))) ⌝ }
-{
-    let time = SmpteTime {
+    SmpteTime {
         hour: byte(a),
         minute: byte(b),
         second: byte(c),
         frame: byte(d),
         subframe: byte(e),
-        fps,
-    };
-    let fits = are_bytes(a, b, c, d, e);
-    meta(fits, delta, MetaMessage::SmpteOffset(time))
-}
-
-fn time_event(delta: u28, a: u64, b: u64, c: u64, d: u64, e: u64, rate: u64) -> TrackEvent
-    ensures { λ r. ⌜ eventOf r ≡ rowTime (delta .0) a b c d e rate ⌝ }
-{
-    match rate {
-        24 => timed(delta, a, b, c, d, e, Fps::Fps24),
-        25 => timed(delta, a, b, c, d, e, Fps::Fps25),
-        29 => timed(delta, a, b, c, d, e, Fps::Fps29),
-        30 => timed(delta, a, b, c, d, e, Fps::Fps30),
-        _ => no_event(),
+        fps: fps(rate),
     }
 }
 
-fn text_event(delta: u28, number: u64, load: Range) -> TrackEvent
-    ensures { λ r. ⌜ eventOf r ≡ rowText (delta .0) number (spanOf load) ⌝ }
+fn text(number: u64, load: Range) -> MetaMessage
+    ensures { λ r. ⌜ metaOf r ≡ rowText number (spanOf load) ⌝ }
 {
     match number {
-        0x101 => meta(true, delta, MetaMessage::Text(load)),
-        0x102 => meta(true, delta, MetaMessage::Copyright(load)),
-        0x103 => meta(true, delta, MetaMessage::TrackName(load)),
-        0x104 => meta(true, delta, MetaMessage::InstrumentName(load)),
-        0x105 => meta(true, delta, MetaMessage::Lyric(load)),
-        0x106 => meta(true, delta, MetaMessage::Marker(load)),
-        0x107 => meta(true, delta, MetaMessage::CuePoint(load)),
-        0x108 => meta(true, delta, MetaMessage::ProgramName(load)),
-        0x109 => meta(true, delta, MetaMessage::DeviceName(load)),
-        _ => no_event(),
+        0x101 => MetaMessage::Text(load),
+        0x102 => MetaMessage::Copyright(load),
+        0x103 => MetaMessage::TrackName(load),
+        0x104 => MetaMessage::InstrumentName(load),
+        0x105 => MetaMessage::Lyric(load),
+        0x106 => MetaMessage::Marker(load),
+        0x107 => MetaMessage::CuePoint(load),
+        0x108 => MetaMessage::ProgramName(load),
+        0x109 => MetaMessage::DeviceName(load),
+        _ => MetaMessage::EndOfTrack,
     }
 }
 
-// The kinds by a status.
-fn status_event(delta: u28, number: u64, a: u64, b: u64, c: u64, load: Range) -> TrackEvent
-    ensures { λ r. ⌜ eventOf r ≡ rowStatus (delta .0) number a b c (spanOf load) ⌝ }
+// A bend stands where the first data byte of the others does.
+fn message(number: u64, a: u64, b: u64) -> MidiMessage
+    ensures { λ r. ⌜ messageOf r ≡ rowMessage number (byteOf a) (byteOf b) (wordOf a) ⌝ }
 {
-    let x = u7(byte(b));
-    let y = u7(byte(c));
-    let one = are_bytes(a, b, 0, 0, 0);
-    let two = are_bytes(a, b, c, 0, 0);
+    let x = u7(byte(a));
+    let y = u7(byte(b));
+    let bend = PitchBend(u14((a % 0x1_0000) as u16));
     match number {
-        8 => midi(two, delta, a, MidiMessage::NoteOff { key: x, vel: y }),
-        9 => midi(two, delta, a, MidiMessage::NoteOn { key: x, vel: y }),
-        10 => midi(two, delta, a, MidiMessage::Aftertouch { key: x, vel: y }),
-        11 => midi(
-            two,
-            delta,
-            a,
-            MidiMessage::Controller {
-                controller: x,
-                value: y,
-            },
-        ),
-        12 => midi(one, delta, a, MidiMessage::ProgramChange { program: x }),
-        13 => midi(one, delta, a, MidiMessage::ChannelAftertouch { vel: x }),
-        14 => bend_event(delta, a, b),
-        0xF0 => held(true, delta, TrackEventKind::SysEx(load)),
-        0xF7 => held(true, delta, TrackEventKind::Escape(load)),
-        _ => no_event(),
+        8 => MidiMessage::NoteOff { key: x, vel: y },
+        9 => MidiMessage::NoteOn { key: x, vel: y },
+        10 => MidiMessage::Aftertouch { key: x, vel: y },
+        11 => MidiMessage::Controller {
+            controller: x,
+            value: y,
+        },
+        12 => MidiMessage::ProgramChange { program: x },
+        13 => MidiMessage::ChannelAftertouch { vel: x },
+        _ => MidiMessage::PitchBend { bend },
     }
 }
 
-// The kinds by a meta type.
-fn meta_event(
-    delta: u28,
-    number: u64,
-    a: u64,
-    b: u64,
-    c: u64,
-    d: u64,
-    e: u64,
-    f: u64,
-    load: Range,
-) -> TrackEvent
-    ensures { λ r. ⌜ eventOf r ≡ rowMeta (delta .0) number a b c d e f (spanOf load) ⌝ }
+fn meta(number: u64, a: u64, b: u64, c: u64, d: u64, e: u64, f: u64, load: Range) -> MetaMessage
+    ensures { λ r. ⌜ metaOf r ≡ rowMeta number a b c d e f (spanOf load) ⌝ }
 {
-    let first = byte(a);
-    let one = are_bytes(a, 0, 0, 0, 0);
+    let x = byte(a);
     match number {
-        0x100 => number_event(delta, a, b),
-        0x120 => meta(one, delta, MetaMessage::MidiChannel(u4(first))),
-        0x121 => meta(one, delta, MetaMessage::MidiPort(u7(first))),
-        0x12F => meta(true, delta, MetaMessage::EndOfTrack),
-        0x151 => tempo_event(delta, a),
-        0x154 => time_event(delta, a, b, c, d, e, f),
-        0x158 => signature_event(delta, a, b, c, d),
-        0x159 => key_event(delta, a, b),
-        0x17F => meta(true, delta, MetaMessage::SequencerSpecific(load)),
-        0x200 => meta(one, delta, MetaMessage::Unknown(first, load)),
-        _ => text_event(delta, number, load),
+        0x100 => MetaMessage::TrackNumber(track_number(a, b)),
+        0x120 => MetaMessage::MidiChannel(u4(x)),
+        0x121 => MetaMessage::MidiPort(u7(x)),
+        0x151 => MetaMessage::Tempo(u24((a % 0x1_0000_0000) as u32)),
+        0x154 => MetaMessage::SmpteOffset(time(a, b, c, d, e, f)),
+        0x158 => MetaMessage::TimeSignature(x, byte(b), byte(c), byte(d)),
+        0x159 => MetaMessage::KeySignature(from_byte(x), b != 0),
+        0x17F => MetaMessage::SequencerSpecific(load),
+        0x200 => MetaMessage::Unknown(x, load),
+        _ => text(number, load),
     }
 }
 
-pub fn row_event(row: [u64; 10]) -> TrackEvent
-    ensures { λ r. ⌜ eventOf r ≡ rowEvent row ⌝ }
+fn kind(number: u64, a: u64, b: u64, c: u64, d: u64, e: u64, f: u64, load: Range) -> TrackEventKind
+    ensures { λ r. ⌜ kindOf r ≡ rowKind number a b c d e f (spanOf load) ⌝ }
 {
-    let delta = row[0];
-    if 0x1_0000_0000 <= delta {
-        return no_event();
+    if number < 15 {
+        return TrackEventKind::Midi {
+            channel: u4(byte(a)),
+            message: message(number, b, c),
+        };
     }
-    let delta = u28(delta as u32);
-    let number = row[1];
-    let load = load(row[8], row[9]);
-    if number < 0x100 {
-        return status_event(delta, number, row[2], row[3], row[4], load);
+    if number == 0xF0 {
+        return TrackEventKind::SysEx(load);
     }
-    meta_event(
-        delta,
-        number,
+    if number == 0xF7 {
+        return TrackEventKind::Escape(load);
+    }
+    TrackEventKind::Meta(meta(number, a, b, c, d, e, f, load))
+}
+
+// The row itself, where it is an event's.
+fn fitting(row: [u64; 10]) -> [u64; 10]
+    ensures { λ r. ⌜ r ≡ fittingRow row ⌝ }
+{
+    if numbers_fit(
+        row[0],
+        row[1],
         row[2],
         row[3],
         row[4],
         row[5],
         row[6],
         row[7],
-        load,
-    )
+    ) {
+        return row;
+    }
+    [0x1000_0000, 0x12F, 0, 0, 0, 0, 0, 0, 0, 0]
+}
+
+pub fn row_event(row: [u64; 10]) -> TrackEvent
+    ensures { λ r. ⌜ eventOf r ≡ rowEvent row ⌝ }
+{
+    let x = fitting(row);
+    let delta = x[0];
+    TrackEvent {
+        delta: u28((delta % 0x1_0000_0000) as u32),
+        kind: kind(x[1], x[2], x[3], x[4], x[5], x[6], x[7], load(x[8], x[9])),
+    }
 }

@@ -55,9 +55,9 @@ module _ (cap : ℕ) (rules : Rules) (s : List ℕ) (at first : ℕ) where
       record { list = record { records = map eventOf xs; count = n }; stop = stop; place = place; running = status }
       ≡ heldAs cap (listAt rules cap first s at)
 
-  pub invalid : (h : Held) → h ≡ holding cap [] → isRunning first ≡ false
-      → record { list = h; stop = stopped 1; place = at; running = first } ≡ heldAs cap (listAt rules cap first s at)
-  invalid h e v = rw (e, list-invalid rules cap first s at v)
+  pub invalid : isRunning first ≡ false
+      → record { list = holding cap []; stop = stopped 1; place = at; running = first } ≡ heldAs cap (listAt rules cap first s at)
+  invalid v = rw (list-invalid rules cap first s at v)
 
   pub begun : (xs : List TrackEvent) (n : ℕ) → record { records = map eventOf xs; count = n } ≡ holding cap [] → isRunning first ≡ true
       → Sofar cap rules s at first xs at first 0

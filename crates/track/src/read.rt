@@ -3,7 +3,7 @@ ghost use mathlib.Core.Path.{_≡_};
 ghost use Rattle.smf.specs.Lists.{listAt, heldAs};
 ghost use Rattle.number.specs.Rules.{rulesOf};
 ghost use Rattle.track.specs.List.{capacity};
-ghost use Rattle.track.specs.Read.{listRead};
+ghost use Rattle.track.specs.Read.{listRead, unreadAt};
 use crate::list::CAPACITY;
 use crate::list::EventList;
 use event::read::ReadEvent;
@@ -30,20 +30,27 @@ pub struct ReadList {
     pub running: Running,
 }
 
+// Nothing is read from a running status that is none.
+fn unread(at: usize, running: Running) -> ReadList
+    ensures { λ r. ⌜ listRead r ≡ unreadAt at (running .status) ⌝ }
+{
+    ReadList {
+        list: EventList::new(),
+        stop: Stop::Refused(Refusal::RunningStatus),
+        place: at,
+        running,
+    }
+}
+
 impl EventList {
     // The list at a place, from a running status.
     pub fn read(raw: &[u8], at: usize, running: Running, rules: Rules) -> ReadList
         ensures { λ r. ⌜ listRead r ≡ heldAs capacity (listAt (rulesOf rules) capacity (running .status) (now (raw .entry)) at) ⌝ }
     {
-        let mut list = EventList::new();
         if !running.is_valid() {
-            return ReadList {
-                list,
-                stop: Stop::Refused(Refusal::RunningStatus),
-                place: at,
-                running,
-            };
+            return unread(at, running);
         }
+        let mut list = EventList::new();
         let mut place = at;
         let mut status = running.status;
         let mut count: usize = 0;

@@ -1,16 +1,13 @@
 -- The loop that measures a list.
-use mathlib.Core.Path.{_≡_, sym, ap, _∙_}
-use mathlib.Core.List.{map}
-use Prim.Native.Nat.{_-_, _≤_, _<_}
+use mathlib.Core.Path.{_≡_}
+use Prim.Native.Nat.{_-_, _≤_}
 use native.Mathlib.Omega.{arith}
-use lib.ListN.{length, take}
+use lib.ListN.{length}
 use borrow.Author.Needs.{needs}
 use Rattle.number.specs.Rules.{rulesOf}
-use Rattle.event.specs.Event.{eventOf}
-use Rattle.measure.specs.Length.{eventSize}
 use Rattle.track.specs.List.{capacity}
-use Rattle.track.proofs.Held.{past, unmapped}
-use Rattle.track.proofs.Counted.{counted-length, counted-at}
+use Rattle.track.proofs.Held.{unmapped}
+use Rattle.track.proofs.Counted.{counting, counted-length}
 use Rattle.compose.proofs.Measuring.{Seen, seen-first, seen-last, seen-illegal, seen-most, seen-more}
 use Rattle.compose.proofs.length.measure_all.Statement.{statement}
 use Rattle.compose.proofs.length.measure_all.Tie as tie
@@ -20,7 +17,7 @@ use Rattle.measure.proofs.length.measure.Reads as measure-reads
 
 abbrev Inv-loop : tie.InvT-loop
 Inv-loop rules bytes list count n₀ status₀ i₀ n status i =
-    (count ≤ length (list .records)) × (i ≤ count) × Seen (rulesOf rules) bytes status₀ (take count (map eventOf (list .records))) n status i
+    (count ≤ length (list .records)) × (i ≤ count) × Seen (rulesOf rules) bytes status₀ (counting (list .records) count) n status i
 
 abbrev μ-loop : tie.MeasureT-loop
 μ-loop rules bytes list count n₀ status₀ i₀ n status i = count - i
@@ -47,10 +44,7 @@ returns c =
     let m = c .before .before .before in
     let l = m .before .before .before .loop in
     let a = m .before .before .before .before .before .args in
-    let i = m .before .before .loop-test .taken in
-    seen-illegal (rulesOf (a .rules)) (a .bytes .now) (a .running .status) (take (a .t1 .count) (map eventOf (a .t1 .records))) (l .inv .2)
-    (omega (arith, counted-length (a .t1 .records) (a .t1 .count) (l .inv .0))) (eventOf past) (m .measure .result)
-    (m .measure .ensures ∙ ap (eventSize (rulesOf (a .rules)) (l .status) (a .bytes .now)) (sym (counted-at (a .t1 .records) (a .t1 .count) (l .index) i)))
+    seen-illegal (rulesOf (a .rules)) (a .bytes .now) (a .running .status) (a .t1 .records) (a .t1 .count) (l .inv .0) (l .inv .2) (m .before .before .loop-test .taken) (m .measure .result) (m .measure .ensures)
     (c .before .refusal .given .0 .0) (c .before .refusal .given .1)
 
 enum-known-size : tie.Need-enum-known-size Inv-loop μ-loop
@@ -61,10 +55,7 @@ add-length c =
     let m = c .before .before .before .before in
     let l = m .before .before .before .loop in
     let a = m .before .before .before .before .before .args in
-    let i = m .before .before .loop-test .taken in
-    let s = seen-most (rulesOf (a .rules)) (a .bytes .now) (a .running .status) (take (a .t1 .count) (map eventOf (a .t1 .records))) (l .inv .2)
-    (omega (arith, counted-length (a .t1 .records) (a .t1 .count) (l .inv .0))) (eventOf past) (m .measure .result)
-    (m .measure .ensures ∙ ap (eventSize (rulesOf (a .rules)) (l .status) (a .bytes .now)) (sym (counted-at (a .t1 .records) (a .t1 .count) (l .index) i)))
+    let s = seen-most (rulesOf (a .rules)) (a .bytes .now) (a .running .status) (a .t1 .records) (a .t1 .count) (l .inv .0) (l .inv .2) (m .before .before .loop-test .taken) (m .measure .result) (m .measure .ensures)
     (c .before .before .size .given .0 .0) (c .before .before .size .given .1) in
     omega (arith, s, l .inv .2 .small, m .before .before .before .before .before .pre)
 
@@ -78,13 +69,10 @@ loop-again : tie.Need-loop-again Inv-loop μ-loop
 loop-again c =
     let m = c .before .before .before .before in
     let l = m .before .before .before .loop in
-    let a = m .before .before .before .before .before .args in
-    let i = m .before .before .loop-test .taken in (
+    let a = m .before .before .before .before .before .args in (
       l .inv .0,
       omega arith,
-      seen-more (rulesOf (a .rules)) (a .bytes .now) (a .running .status) (take (a .t1 .count) (map eventOf (a .t1 .records))) (l .inv .2)
-          (omega (arith, counted-length (a .t1 .records) (a .t1 .count) (l .inv .0))) (eventOf past) (m .measure .result)
-          (m .measure .ensures ∙ ap (eventSize (rulesOf (a .rules)) (l .status) (a .bytes .now)) (sym (counted-at (a .t1 .records) (a .t1 .count) (l .index) i)))
+      seen-more (rulesOf (a .rules)) (a .bytes .now) (a .running .status) (a .t1 .records) (a .t1 .count) (l .inv .0) (l .inv .2) (m .before .before .loop-test .taken) (m .measure .result) (m .measure .ensures)
           (c .before .before .size .given .0 .0) (c .before .before .size .given .1),
     )
 
@@ -92,7 +80,7 @@ returns-2 : tie.Need-returns-2 Inv-loop μ-loop
 returns-2 c =
     let l = c .before .loop in
     let a = c .before .before .before .args in
-    seen-last (rulesOf (a .rules)) (a .bytes .now) (a .running .status) (take (a .t1 .count) (map eventOf (a .t1 .records))) (l .inv .2)
+    seen-last (rulesOf (a .rules)) (a .bytes .now) (a .running .status) (counting (a .t1 .records) (a .t1 .count)) (l .inv .2)
     (omega (arith, counted-length (a .t1 .records) (a .t1 .count) (l .inv .0)))
 
 pub measure-all-spec : {M : Type 1} → statement M

@@ -1,9 +1,8 @@
 -- The loop that writes a list.
 use mathlib.Core.Path.{_≡_, sym, ap, _∙_}
-use mathlib.Core.List.{List, map}
-use Prim.Native.Nat.{ℕ, _-_, _≤_, _<_}
+use Prim.Native.Nat.{_-_, _≤_}
 use native.Mathlib.Omega.{arith}
-use lib.ListN.{length, take}
+use lib.ListN.{length}
 use borrow.Author.Needs.{needs}
 use Rattle.smf.specs.Place.{Span}
 use Rattle.smf.specs.Event as smf
@@ -12,7 +11,7 @@ use Rattle.event.specs.Event.{eventOf}
 use Rattle.writing.specs.Put.{putEvent}
 use Rattle.track.specs.List.{capacity}
 use Rattle.track.proofs.Held.{past, unmapped}
-use Rattle.track.proofs.Counted.{counted-length, counted-at}
+use Rattle.track.proofs.Counted.{counting, counted-length, counted-at}
 use Rattle.compose.proofs.Going.{Going, going-first, going-length, going-last, going-more}
 use Rattle.compose.proofs.write.put_all.Statement.{statement}
 use Rattle.compose.proofs.write.put_all.Tie as tie
@@ -22,7 +21,7 @@ use Rattle.writing.proofs.put.put_event.Reads as put-event-reads
 
 abbrev Inv-loop : tie.InvT-loop
 Inv-loop rules bytes out₀ list count place₀ status₀ i₀ out place status i =
-    (count ≤ length (list .records)) × (i ≤ count) × Going (rulesOf rules) bytes status₀ (take count (map eventOf (list .records))) out₀ out place status i
+    (count ≤ length (list .records)) × (i ≤ count) × Going (rulesOf rules) bytes status₀ (counting (list .records) count) out₀ out place status i
 
 abbrev μ-loop : tie.MeasureT-loop
 μ-loop rules bytes out₀ list count place₀ status₀ i₀ out place status i = count - i
@@ -56,7 +55,7 @@ loop-again c =
     let i = m .before .before .before .loop-test .taken in (
       l .inv .0,
       omega arith,
-      going-more (rulesOf (a .rules)) (a .bytes .now) (a .running .status) (take (a .t1 .count) (map eventOf (a .t1 .records))) (a .out .now) (l .inv .2)
+      going-more (rulesOf (a .rules)) (a .bytes .now) (a .running .status) (counting (a .t1 .records) (a .t1 .count)) (a .out .now) (l .inv .2)
           (eventOf past) (m .put-event .result) _ (omega (arith, counted-length (a .t1 .records) (a .t1 .count) (l .inv .0)))
           (m .put-event .ensures ∙ ap (λ (e : smf.Event Span). putEvent (rulesOf (a .rules)) (l .status) (a .bytes .now) e (l .out) (l .place)) (sym (counted-at (a .t1 .records) (a .t1 .count) (l .index) i))),
     )
@@ -70,7 +69,7 @@ returns : tie.Need-returns Inv-loop μ-loop
 returns c =
     let l = c .before .loop in
     let a = c .before .before .before .before .args in
-    going-last (rulesOf (a .rules)) (a .bytes .now) (a .running .status) (take (a .t1 .count) (map eventOf (a .t1 .records))) (a .out .now) (l .inv .2)
+    going-last (rulesOf (a .rules)) (a .bytes .now) (a .running .status) (counting (a .t1 .records) (a .t1 .count)) (a .out .now) (l .inv .2)
     (omega (arith, counted-length (a .t1 .records) (a .t1 .count) (l .inv .0)))
 
 pub put-all-spec : {M : Type 1} → statement M

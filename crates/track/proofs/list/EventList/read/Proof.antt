@@ -6,7 +6,7 @@ use borrow.Author.Tests.{not-true, not-false}
 use lib.ListN.{length}
 use borrow.Author.Needs.{needs}
 use Rattle.number.specs.Rules.{rulesOf}
-use Rattle.track.specs.List.{capacity, heldOf}
+use Rattle.track.specs.List.{capacity}
 use Rattle.track.proofs.Reading.{Sofar, invalid, begun, ends, fills, stops, onward, again}
 use Rattle.track.proofs.list.EventList.read.Statement.{statement}
 use Rattle.track.proofs.list.EventList.read.Tie as tie
@@ -23,26 +23,30 @@ abbrev μ-loop : tie.MeasureT-loop
 μ-loop raw at rules list₀ place₀ status₀ count₀ list place status count = length raw - place
 
 -- src/read.rt:38:24
-new-requires : tie.Need-new-requires Inv-loop μ-loop
-new-requires c κs = search needs
-
--- src/read.rt:39:13
 is-valid-requires : tie.Need-is-valid-requires Inv-loop μ-loop
 is-valid-requires c κs = search needs
+
+unread-requires : tie.Need-unread-requires Inv-loop μ-loop
+unread-requires c κs = search needs
 
 -- the running status is none
 returns : tie.Need-returns Inv-loop μ-loop
 returns c =
     let a = c .before .before .before .before .args in
-    invalid capacity (rulesOf (a .rules)) (a .raw .now) (a .at) (a .running .status) (heldOf (c .before .before .new .result)) (c .before .before .new .ensures)
-    (sym (c .before .is-valid .ensures) ∙ not-true (c .before .is-valid .result) (c .if1 .taken))
+    let v = c .before .before .is-valid in
+    c .unread .ensures
+    ∙ invalid capacity (rulesOf (a .rules)) (a .raw .now) (a .at) (a .running .status) (sym (v .ensures) ∙ not-true (v .result) (c .before .if1 .taken))
+
+new-requires : tie.Need-new-requires Inv-loop μ-loop
+new-requires c κs = search needs
 
 loop-holds : tie.Need-loop-holds Inv-loop μ-loop
 loop-holds c =
     let a = c .before .before .before .before .args in
-    let l = c .before .before .new .result in
-    begun capacity (rulesOf (a .rules)) (a .raw .now) (a .at) (a .running .status) (l .records) (l .count) (c .before .before .new .ensures)
-    (sym (c .before .is-valid .ensures) ∙ not-false (c .before .is-valid .result) (c .if1 .left))
+    let v = c .before .before .is-valid in
+    let l = c .new .result in
+    begun capacity (rulesOf (a .rules)) (a .raw .now) (a .at) (a .running .status) (l .records) (l .count) (c .new .ensures)
+    (sym (v .ensures) ∙ not-false (v .result) (c .before .if1 .left))
 
 read-requires : tie.Need-read-requires Inv-loop μ-loop
 read-requires c κs = search needs
@@ -104,9 +108,10 @@ read-spec =
     (tie.spec
     Inv-loop
     μ-loop
-    new-requires
     is-valid-requires
+    unread-requires
     returns
+    new-requires
     loop-holds
     read-requires
     enum-known-n

@@ -1,0 +1,22 @@
+-- All claims, proved.
+use Rattle.claims.specs.All.{All}
+use Rattle.claims.proofs.Worked.{as-worked}
+use Rattle.claims.proofs.Shortest.{shortest, not-lenient}
+use Rattle.claims.proofs.Identical.{identical}
+use Rattle.claims.proofs.Point1.{point-1}
+use Rattle.claims.proofs.Point2.{point-2}
+use Rattle.claims.proofs.Point3.{writes}
+use Rattle.claims.proofs.Point3Calls.{point-3}
+
+pub all : All
+all =
+    record {
+      worked = as-worked;
+      shortest = shortest;
+      not-lenient = not-lenient;
+      identical = identical;
+      point-1 = point-1;
+      point-2 = point-2;
+      point-3 = point-3;
+      writes = writes;
+    }

@@ -1,0 +1,95 @@
+-- A claim of every call that a promise permits, from a law over plain values whose premise is the promise's own equation.
+use mathlib.Core.Path.{_≡_}
+use mathlib.Core.List.{List, map}
+use Prim.Native.Nat.{ℕ}
+use denote.Ref.{now}
+use Rattle.smf.specs.Place.{numberAt, payloadAt}
+use Rattle.smf.specs.Write.{write, numberBytes, payloadBytes}
+use Rattle.smf.specs.MetaAt.{metaAt}
+use Rattle.smf.specs.Event.{eventAt, writeEvent}
+use Rattle.smf.specs.Lists.{listAt, heldAs, sizeList, writeList}
+use Rattle.number.specs.Rules.{rulesOf}
+use Rattle.number.specs.Varlen.{numberRead, sliceRead, writeLeft}
+use Rattle.number.specs.declared.rules.Rules.{Rules}
+use Rattle.number.specs.declared.rules.Running.{Running}
+use Rattle.number.specs.declared.rules.Range.{Range}
+use Rattle.number.specs.declared.restricted.u28.{u28}
+use Rattle.number.specs.declared.varlen.ReadNumber.{ReadNumber}
+use Rattle.number.specs.declared.varlen.ReadSlice.{ReadSlice}
+use Rattle.number.specs.declared.varlen.Written.{Written}
+use Rattle.message.specs.Message.{metaRead}
+use Rattle.message.specs.declared.meta.ReadMeta.{ReadMeta}
+use Rattle.event.specs.Event.{eventOf, eventRead}
+use Rattle.event.specs.declared.track_event.TrackEvent.{TrackEvent}
+use Rattle.event.specs.declared.read.ReadEvent.{ReadEvent}
+use Rattle.track.specs.List.{capacity}
+use Rattle.track.specs.Read.{listRead}
+use Rattle.track.specs.declared.list.EventList.{EventList}
+use Rattle.track.specs.declared.read.ReadList.{ReadList}
+use Rattle.writing.specs.Write.{wroteEvent}
+use Rattle.writing.specs.declared.write.WroteEvent.{WroteEvent}
+use Rattle.compose.specs.Lengths.{sizeSaid, wroteList}
+use Rattle.compose.specs.declared.length.ListLength as length
+use Rattle.compose.specs.declared.write.WroteList.{WroteList}
+use Rattle.claims.specs.Calls.{ReadU7, WriteVarlen, ReadVarlenSlice, WriteVarlenSlice, MetaMessageRead, TrackEventRead, EventListRead, WriteEvent, ListLength, WriteList}
+
+pub read-u7 : (Claim : List ℕ → ℕ → Rules → ReadNumber → Type 0)
+    → ((raw : List ℕ) (at : ℕ) (rules : Rules) (r : ReadNumber) → numberRead r ≡ numberAt (rulesOf rules) raw at → Claim raw at rules r)
+    → ReadU7 Claim
+read-u7 Claim law κs a r e told = law (now (a .0)) (a .1 .0) (a .1 .1 .0) r told
+
+pub write-varlen : (Claim : u28 → List ℕ → ℕ → Written → List ℕ → Type 0)
+    → ((self : u28) (out : List ℕ) (at : ℕ) (r : Written) (end : List ℕ) → writeLeft r end ≡ write (numberBytes (self .0)) out at → Claim self out at r end)
+    → WriteVarlen Claim
+write-varlen Claim law κs a r e told = law (a .0) (now (a .1 .0)) (a .1 .1 .0) r (now (e .1 .0)) told
+
+pub read-varlen-slice : (Claim : List ℕ → ℕ → Rules → ReadSlice → Type 0)
+    → ((raw : List ℕ) (at : ℕ) (rules : Rules) (r : ReadSlice) → sliceRead r ≡ payloadAt (rulesOf rules) raw at → Claim raw at rules r)
+    → ReadVarlenSlice Claim
+read-varlen-slice Claim law κs a r e told = law (now (a .0)) (a .1 .0) (a .1 .1 .0) r told
+
+pub write-varlen-slice : (Claim : List ℕ → Range → List ℕ → ℕ → Written → List ℕ → Type 0)
+    → ((bytes : List ℕ) (slice : Range) (out : List ℕ) (at : ℕ) (r : Written) (end : List ℕ)
+    → writeLeft r end ≡ write (payloadBytes bytes (slice .start) (slice .length)) out at → Claim bytes slice out at r end)
+    → WriteVarlenSlice Claim
+write-varlen-slice Claim law κs a r e told = law (now (a .0)) (a .1 .0) (now (a .1 .1 .0)) (a .1 .1 .1 .0) r (now (e .1 .1 .0)) told
+
+pub read-meta : (Claim : List ℕ → ℕ → Rules → ReadMeta → Type 0)
+    → ((raw : List ℕ) (at : ℕ) (rules : Rules) (r : ReadMeta) → metaRead r ≡ metaAt (rulesOf rules) raw at → Claim raw at rules r)
+    → MetaMessageRead Claim
+read-meta Claim law κs a r e told = law (now (a .0)) (a .1 .0) (a .1 .1 .0) r told
+
+pub read-event : (Claim : List ℕ → ℕ → Running → Rules → ReadEvent → Type 0)
+    → ((raw : List ℕ) (at : ℕ) (running : Running) (rules : Rules) (r : ReadEvent)
+    → eventRead r ≡ eventAt (rulesOf rules) (running .status) raw at → Claim raw at running rules r)
+    → TrackEventRead Claim
+read-event Claim law κs a r e told = law (now (a .0)) (a .1 .0) (a .1 .1 .0) (a .1 .1 .1 .0) r told
+
+pub read-list : (Claim : List ℕ → ℕ → Running → Rules → ReadList → Type 0)
+    → ((raw : List ℕ) (at : ℕ) (running : Running) (rules : Rules) (r : ReadList)
+    → listRead r ≡ heldAs capacity (listAt (rulesOf rules) capacity (running .status) raw at) → Claim raw at running rules r)
+    → EventListRead Claim
+read-list Claim law κs a r e told = law (now (a .0)) (a .1 .0) (a .1 .1 .0) (a .1 .1 .1 .0) r told
+
+pub write-event : (Claim : TrackEvent → Running → Rules → List ℕ → List ℕ → ℕ → WroteEvent → List ℕ → Type 0)
+    → ((event : TrackEvent) (running : Running) (rules : Rules) (bytes out : List ℕ) (at : ℕ) (r : WroteEvent) (end : List ℕ)
+    → wroteEvent (running .status) r end ≡ writeEvent (rulesOf rules) (running .status) bytes (eventOf event) out at
+    → Claim event running rules bytes out at r end)
+    → WriteEvent Claim
+write-event Claim law κs a r e told =
+    law (a .0) (a .1 .0) (a .1 .1 .0) (now (a .1 .1 .1 .0)) (now (a .1 .1 .1 .1 .0)) (a .1 .1 .1 .1 .1 .0) r (now (e .1 .1 .1 .1 .0)) told
+
+pub list-length : (Claim : EventList → Running → Rules → List ℕ → length.ListLength → Type 0)
+    → ((list : EventList) (running : Running) (rules : Rules) (bytes : List ℕ) (r : length.ListLength)
+    → sizeSaid (running .status) r ≡ sizeList (rulesOf rules) capacity (running .status) bytes (map eventOf (list .records)) (list .count)
+    → Claim list running rules bytes r)
+    → ListLength Claim
+list-length Claim law κs a r e told = law (a .0) (a .1 .0) (a .1 .1 .0) (now (a .1 .1 .1 .0)) r told
+
+pub write-list : (Claim : EventList → Running → Rules → List ℕ → List ℕ → WroteList → List ℕ → Type 0)
+    → ((list : EventList) (running : Running) (rules : Rules) (bytes out : List ℕ) (r : WroteList) (end : List ℕ)
+    → wroteList (running .status) r end ≡ writeList (rulesOf rules) capacity (running .status) bytes (map eventOf (list .records)) (list .count) out
+    → Claim list running rules bytes out r end)
+    → WriteList Claim
+write-list Claim law κs a r e told =
+    law (a .0) (a .1 .0) (a .1 .1 .0) (now (a .1 .1 .1 .0)) (now (a .1 .1 .1 .1 .0)) r (now (e .1 .1 .1 .1 .0)) told

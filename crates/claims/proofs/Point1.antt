@@ -1,0 +1,124 @@
+-- Point 1, proved: each promise's definition refuses by those numbers, and leaves what it found.
+use mathlib.Core.Path.{_≡_, refl, sym, subst}
+use mathlib.Core.Bool.{true}
+use mathlib.Core.List.{List, [], _∷_, map}
+use Prim.Native.Nat.{ℕ}
+use lib.Ieee.{binary32, binary64}
+use denote.Ref.{now}
+use Rattle.smf.specs.Answer.{Answer}
+use Rattle.smf.specs.Write as smf
+use Rattle.smf.specs.Write.{numberBytes, payloadBytes}
+use Rattle.smf.specs.Event.{EventWritten}
+use Rattle.smf.specs.Lists.{ListAt, listAt, heldAs, ListSize, ListWritten}
+use Rattle.number.specs.Refusal.{numberOf}
+use Rattle.number.specs.Rules.{rulesOf}
+use Rattle.number.specs.declared.rules.Rules.{Rules}
+use Rattle.number.specs.declared.rules.Running.{Running}
+use Rattle.number.specs.declared.refusal.Refusal.{Refusal}
+use Rattle.number.specs.declared.refusal.Refusal.the-variants as refusal
+use Rattle.header.specs.Timing.{timingOf}
+use Rattle.event.specs.Event.{eventOf}
+use Rattle.track.specs.Read.{listRead}
+use Rattle.track.specs.declared.read.ReadList.{ReadList}
+use Rattle.claims.specs.Table.{inTable, By, Keeps, ofNumber, ofPayload, ofMeta, ofLegality, ofLength}
+use Rattle.claims.specs.Stands.{EventOrLeft, ListStands}
+use Rattle.claims.specs.Leaves.{EventLeaves, SizeLeaves, ListLeaves}
+use Rattle.claims.specs.Point1.{Numbered, Point1}
+use Rattle.claims.proofs.Calls as calls
+use Rattle.claims.proofs.Refusals.{by-more, number-at-by, payload-at-by, meta-at-by, width-by, format-by, rate-by, timing-by, timing-bytes-by, time-by, time-of-by, time-bytes-by, seconds-by, position-by, bend-by, bend-float-by, number-bytes-by, payload-bytes-by, write-keeps, settled-by, event-size-by, event-length-by, allowed-by, allowed-then-by}
+use Rattle.claims.proofs.Left.{event-or-left}
+use Rattle.claims.proofs.Stands.{list-stands}
+use Rattle.claims.proofs.EventWrites.{event-leaves}
+use Rattle.claims.proofs.ListLeaves.{size-leaves, list-leaves}
+
+table : (n : Refusal) → inTable (numberOf n) ≡ true
+table refusal.RunningStatus = refl
+table refusal.NumberCutOff = refl
+table refusal.NumberContinues = refl
+table refusal.NoStatus = refl
+table refusal.NoRunningStatus = refl
+table refusal.SystemCommon = refl
+table refusal.SystemRealtime = refl
+table refusal.ChannelDataShort = refl
+table refusal.ChannelDataTopBit = refl
+table refusal.NoMetaType = refl
+table refusal.PayloadCutOff = refl
+table refusal.ChannelOrPort = refl
+table refusal.SmpteTime = refl
+table refusal.KeySignatureShort = refl
+table refusal.NoSuchFormat = refl
+table refusal.NoSuchRate = refl
+table refusal.HeaderFieldShort = refl
+table refusal.AboveWidth = refl
+table refusal.PayloadOutside = refl
+table refusal.NoRoom = refl
+table refusal.TooManyEvents = refl
+table refusal.PayloadTooLong = refl
+table refusal.UnknownNamed = refl
+
+-- what an answer says is refused by the numbers of the definition that it equals
+of : {A : Type 0} {x y : Answer A} (ns : List ℕ) → x ≡ y → By ns y → By ns x
+of ns told h = subst (By ns) (sym told) h
+
+numbered : Numbered
+numbered =
+    record {
+      u2-try-from = λ κs a z e told. of (18 ∷ []) told (width-by 2 _);
+      u4-try-from = λ κs a z e told. of (18 ∷ []) told (width-by 4 _);
+      u7-try-from = λ κs a z e told. of (18 ∷ []) told (width-by 7 _);
+      u14-try-from = λ κs a z e told. of (18 ∷ []) told (width-by 14 _);
+      u15-try-from = λ κs a z e told. of (18 ∷ []) told (width-by 15 _);
+      u24-try-from = λ κs a z e told. of (18 ∷ []) told (width-by 24 _);
+      u28-try-from = λ κs a z e told. of (18 ∷ []) told (width-by 28 _);
+      format-read = λ κs a z e told. of (15 ∷ 17 ∷ []) told (format-by (now (a .0)));
+      timing-read = λ κs a z e told. of (16 ∷ 17 ∷ []) told (timing-by (now (a .0)));
+      timing-encode = λ κs a z e told. of (18 ∷ []) told (timing-bytes-by (timingOf (a .0)));
+      fps-from-int = λ κs a z e told. of (16 ∷ []) told (rate-by (a .0));
+      smpte-new = λ κs a z e told. of (13 ∷ []) told (time-by _);
+      smpte-read = λ κs a z e told. of (13 ∷ []) told (time-of-by _ _ _ _ _);
+      smpte-second-f32 = λ κs a z e told. of (13 ∷ []) told (seconds-by _);
+      smpte-position = λ κs a z e told. of (13 ∷ []) told (position-by _);
+      smpte-encode = λ κs a z e told. of (18 ∷ []) told (time-bytes-by _);
+      bend-as-int = λ κs a z e told. of (18 ∷ []) told (bend-by _);
+      bend-as-f32 = λ κs a z e told. of (18 ∷ []) (told .0) (bend-float-by binary32 _);
+      bend-as-f64 = λ κs a z e told. of (18 ∷ []) (told .0) (bend-float-by binary64 _);
+      form-legality = λ κs a z e told. of ofLegality told (allowed-by _ _ _);
+      legality = λ κs a z e told. of ofLegality told (settled-by _ _ _);
+      form-measure = λ κs a z e told. of ofLegality told (allowed-then-by _ _ _ _);
+      measure-event = λ κs a z e told. of ofLegality told (event-size-by _ _ _ _);
+      event-length = λ κs a z e told. of ofLength told (event-length-by _ _ _ _);
+    }
+
+list-said : (raw : List ℕ) (at : ℕ) (running : Running) (rules : Rules) (r : ReadList) → listRead r ≡ heldAs 128 (listAt (rulesOf rules) 128 (running .status) raw at)
+    → (l : ListAt) × (listRead r ≡ heldAs 128 l) × ListStands (rulesOf rules) raw 128 (running .status) at l
+list-said raw at running rules r told =
+    (listAt (rulesOf rules) 128 (running .status) raw at, told, list-stands (rulesOf rules) raw at 128 (running .status))
+
+pub point-1 : Point1
+point-1 =
+    record {
+      table = table;
+      numbered = numbered;
+      read-u7 = calls.read-u7 _ (λ raw at rules r told. of (ofNumber (rules .strict)) told (number-at-by (rulesOf rules) raw at));
+      read-varlen-slice = calls.read-varlen-slice _ (λ raw at rules r told. of (ofPayload (rules .strict)) told (payload-at-by (rulesOf rules) raw at));
+      meta-message-read = calls.read-meta _ (λ raw at rules r told. of (ofMeta (rules .strict)) told (meta-at-by (rulesOf rules) raw at));
+      write-varlen = calls.write-varlen _ (λ self out at r end told.
+          subst (λ (w : smf.Written). Keeps (18 ∷ 20 ∷ []) (w .answer) out (w .buffer)) (sym told)
+          (write-keeps (18 ∷ 20 ∷ []) (numberBytes (self .0)) out at (by-more (18 ∷ 20 ∷ []) (18 ∷ []) (numberBytes (self .0)) refl (number-bytes-by (self .0))) refl));
+      write-varlen-slice = calls.write-varlen-slice _ (λ bytes slice out at r end told.
+          subst (λ (w : smf.Written). Keeps (19 ∷ 20 ∷ 22 ∷ []) (w .answer) out (w .buffer)) (sym told)
+          (write-keeps (19 ∷ 20 ∷ 22 ∷ []) (payloadBytes bytes (slice .start) (slice .length)) out at
+          (by-more (19 ∷ 20 ∷ 22 ∷ []) (19 ∷ 22 ∷ []) (payloadBytes bytes (slice .start) (slice .length)) refl (payload-bytes-by bytes (slice .start) (slice .length))) refl));
+      track-event-read = calls.read-event _ (λ raw at running rules r told.
+          subst (EventOrLeft (rulesOf rules) raw (running .status) at) (sym told) (event-or-left (rulesOf rules) raw (running .status) at));
+      event-list-read = calls.read-list _ list-said;
+      write-event = calls.write-event _ (λ event running rules bytes out at r end told.
+          subst (λ (w : EventWritten). EventLeaves (running .status) at out w (w .written .answer)) (sym told)
+          (event-leaves (rulesOf rules) (running .status) bytes (eventOf event) out at));
+      list-length = calls.list-length _ (λ list running rules bytes r told.
+          subst (λ (w : ListSize). SizeLeaves (rulesOf rules) bytes (map eventOf (list .records)) (list .count) (running .status) w (w .answer)) (sym told)
+          (size-leaves (rulesOf rules) bytes (map eventOf (list .records)) (list .count) 128 (running .status)));
+      write-list = calls.write-list _ (λ list running rules bytes out r end told.
+          subst (λ (w : ListWritten). ListLeaves (rulesOf rules) bytes (map eventOf (list .records)) (list .count) (running .status) out w (w .answer)) (sym told)
+          (list-leaves (rulesOf rules) bytes (map eventOf (list .records)) (list .count) 128 (running .status) out));
+    }

@@ -1,0 +1,146 @@
+-- Point 3, proved of whatever the promises permit: what they say is the definitions', of which it holds.
+use mathlib.Core.Path.{_≡_, refl, sym, ap, _∙_, subst}
+use mathlib.Core.List.{List, _++_, map}
+use Prim.Native.Nat.{ℕ, _+_, _-_}
+use native.Mathlib.Omega.{arith}
+use lib.ListN.{length, take, replicate, length-map}
+use lib.Seq.{take-append-seam, length-take-le}
+use Rattle.smf.specs.Answer.{Rules, strictOf, gives}
+use Rattle.smf.specs.Place.{Span}
+use Rattle.smf.specs.Event.{Event, mapEvent, bytesOf, Same, encodeEvent, EventWritten, writeEvent}
+use Rattle.smf.specs.Lists.{listed, ListAt, listAt, filler, holding, heldAs, ListHeld, wrote, ListWritten, writeList, counted}
+use Rattle.smf.proofs.Event as smf
+use Rattle.smf.proofs.Lists.{list-ended}
+use Rattle.smf.proofs.ListPlaces.{list-reached}
+use Rattle.smf.proofs.ListWrites.{write-wrote, front-own}
+use Rattle.number.specs.Rules.{rulesOf}
+use Rattle.number.specs.declared.rules.Rules as number
+use Rattle.number.specs.declared.rules.Running.{Running}
+use Rattle.event.specs.Event.{eventOf}
+use Rattle.event.specs.declared.track_event.TrackEvent.{TrackEvent}
+use Rattle.writing.specs.Write.{wroteEvent}
+use Rattle.writing.specs.declared.write.WroteEvent.{WroteEvent}
+use Rattle.writing.specs.declared.write.WroteEvent.the-variants as event
+use Rattle.track.specs.Read.{listRead}
+use Rattle.track.specs.declared.list.EventList.{EventList}
+use Rattle.compose.specs.Lengths.{wroteList}
+use Rattle.claims.specs.Point3.{Accepted, Written, ReadBack, ReadAgain, NeverBegins, Point3}
+use Rattle.claims.specs.Calls.{EventListRead, WriteEvent}
+use Rattle.claims.proofs.Calls as calls
+use Rattle.claims.proofs.Point3.{writes}
+use Rattle.claims.proofs.EventWrites.{event-wrote}
+
+-- what the answer's meaning says of the buffer at the end
+event-end : (running : ℕ) (r : WroteEvent) (end : List ℕ) → wroteEvent running r end .written .buffer ≡ end
+event-end running (event.Next p) end = refl
+event-end running (event.Refused n) end = refl
+
+-- a list that was written, read again
+module _ (rules : Rules) (running : ℕ) (bytes : List ℕ) (records : List (Event Span)) (count : ℕ) (out : List ℕ) (n : ℕ)
+    (e : writeList rules 128 running bytes records count out .answer ≡ wrote n) where
+  abbrev w : ListWritten
+  w = writeList rules 128 running bytes records count out
+
+  abbrev raw : List ℕ
+  raw = take n (w .buffer)
+
+  abbrev read : ListAt
+  read = listAt (strictOf rules) 128 running raw 0
+
+  abbrev itself : Event Span → Event (List ℕ)
+  itself = mapEvent (bytesOf raw)
+
+  accepted : Accepted rules 128 running bytes records count out w n
+  accepted = writes rules 128 running bytes records count out .accepted n e
+
+  size : length raw ≡ n
+  size = length-take-le n (w .buffer) (omega (arith, accepted .long, write-wrote rules 128 running bytes records count out n e .room))
+
+  -- the events of the records that were read are those that were written
+  events : map itself (read .events) ≡ listed bytes records count
+  events = list-reached (strictOf rules) 128 running raw 0 .events ∙ accepted .reads .events
+
+  as-many : length records ≡ 128 → length (read .events) ≡ count
+  as-many full =
+      let few = write-wrote rules 128 running bytes records count out n e .few in
+      let a : length (read .events) ≡ length (listed bytes records count) = sym (length-map (read .events) itself) ∙ ap length events in
+      let b : length (listed bytes records count) ≡ length (take count records) = length-map (take count records) (mapEvent (bytesOf bytes)) in
+      a ∙ b ∙ length-take-le count records (omega (arith, few))
+
+  same : length records ≡ 128 → counted raw (holding 128 (read .events) .records) (holding 128 (read .events) .count) ≡ counted bytes records count
+  unfolding holding
+  same full = rw (take-append-seam (read .events) (replicate (128 - length (read .events)) filler), events, as-many full)
+
+  read-back : length records ≡ 128 → ReadBack raw (heldAs 128 read) n (w .running) bytes records count
+  unfolding listAt
+  read-back full =
+      let end = list-ended (strictOf rules) 128 running raw (accepted .reads .all) in
+      record {
+        stop = accepted .reads .all;
+        place = omega (arith, size, ap length end);
+        status = accepted .after;
+        same = same full;
+      }
+
+-- two events that were written at the front of their buffers
+module _ (running : ℕ) (rules rules′ : Rules) (bytes bytes′ : List ℕ) (e e′ : Event Span) (out out′ : List ℕ) (n n′ : ℕ)
+    (h : writeEvent rules running bytes e out 0 .written .answer ≡ gives n) (h′ : writeEvent rules′ running bytes′ e′ out′ 0 .written .answer ≡ gives n′) where
+  front : (rules : Rules) (bytes : List ℕ) (e : Event Span) (out : List ℕ) (n : ℕ) → writeEvent rules running bytes e out 0 .written .answer ≡ gives n
+      → take n (writeEvent rules running bytes e out 0 .written .buffer) ≡ encodeEvent running (mapEvent (bytesOf bytes) e)
+  front rules bytes e out n h =
+      let a = event-wrote rules running bytes e out 0 n h in
+      let own = encodeEvent running (mapEvent (bytesOf bytes) e) in
+      let z : n ≡ length own = omega (arith, a .size) in
+      rw (a .own, z) (front-own own out)
+
+  never-begins : (more : List ℕ) → take n (writeEvent rules running bytes e out 0 .written .buffer) ≡ take n′ (writeEvent rules′ running bytes′ e′ out′ 0 .written .buffer) ++ more
+      → Same bytes e bytes′ e′
+  never-begins more q =
+      let a = event-wrote rules running bytes e out 0 n h in
+      let a′ = event-wrote rules′ running bytes′ e′ out′ 0 n′ h′ in
+      smf.prefix-free rules running (mapEvent (bytesOf bytes) e) (mapEvent (bytesOf bytes′) e′) more (a .valid) (a .legal) (a′ .legal)
+      (sym (front rules bytes e out n h) ∙ q ∙ ap (λ (l : List ℕ). l ++ more) (front rules′ bytes′ e′ out′ n′ h′))
+
+back : (rules rules′ : Rules) (running : ℕ) (bytes : List ℕ) (records : List (Event Span)) (count : ℕ) (out : List ℕ) (n at : ℕ) (w : ListWritten) (raw : List ℕ) (held : ListHeld)
+    → w ≡ writeList rules 128 running bytes records count out → w .answer ≡ wrote n → length records ≡ 128
+    → held ≡ heldAs 128 (listAt rules′ 128 running raw at) → raw ≡ take n (w .buffer) → at ≡ 0 → rules′ ≡ strictOf rules
+    → ReadBack raw held n (w .running) bytes records count
+back rules rules′ running bytes records count out n at w raw held told e full told′ q z strict =
+    rw (told′, q, z, strict, told) (read-back rules running bytes records count out n (rw told at e) full)
+
+begins : (running running′ : ℕ) (rules rules′ : Rules) (bytes bytes′ : List ℕ) (e e′ : Event Span) (out out′ : List ℕ) (at at′ n n′ : ℕ) (w w′ : EventWritten)
+    → running′ ≡ running → w ≡ writeEvent rules running bytes e out at → at ≡ 0 → w .written .answer ≡ gives n
+    → w′ ≡ writeEvent rules′ running′ bytes′ e′ out′ at′ → at′ ≡ 0 → w′ .written .answer ≡ gives n′
+    → (more : List ℕ) → take n (w .written .buffer) ≡ take n′ (w′ .written .buffer) ++ more → Same bytes e bytes′ e′
+begins running running′ rules rules′ bytes bytes′ e e′ out out′ at at′ n n′ w w′ same told z h told′ z′ h′ more q =
+    let h₀ : writeEvent rules running bytes e out 0 .written .answer ≡ gives n = rw (told, z) at h in
+    let h₁ : writeEvent rules′ running bytes′ e′ out′ 0 .written .answer ≡ gives n′ = rw (told′, z′, same) at h′ in
+    never-begins running rules rules′ bytes bytes′ e e′ out out′ n n′ h₀ h₁ more (rw (told, z, told′, z′, same) at q)
+
+again : (list : EventList) (running : Running) (rules : number.Rules) (bytes out : List ℕ) (w : ListWritten)
+    → w ≡ writeList (rulesOf rules) 128 (running .status) bytes (map eventOf (list .records)) (list .count) out
+    → (n : ℕ) → w .answer ≡ wrote n → length (list .records) ≡ 128 → EventListRead (ReadAgain list running bytes w n)
+again list running rules bytes out w told n e full =
+    calls.read-list (ReadAgain list running bytes w n) (λ raw at running′ rules′ r told′ q z same strict.
+    let full′ : length (map eventOf (list .records)) ≡ 128 = length-map (list .records) eventOf ∙ full in
+    back (rulesOf rules) (rulesOf rules′) (running .status) bytes (map eventOf (list .records)) (list .count) out n at w raw (listRead r)
+    told e full′ (rw same at told′) q z (rw strict))
+
+never : (e : TrackEvent) (running : Running) (rules : number.Rules) (bytes out : List ℕ) (at : ℕ) (r : WroteEvent) (end : List ℕ)
+    → wroteEvent (running .status) r end ≡ writeEvent (rulesOf rules) (running .status) bytes (eventOf e) out at
+    → (n : ℕ) → at ≡ 0 → wroteEvent (running .status) r end .written .answer ≡ gives n → WriteEvent (NeverBegins e running bytes (take n end))
+never e running rules bytes out at r end told n z h =
+    calls.write-event (NeverBegins e running bytes (take n end)) (λ e′ running′ rules′ bytes′ out′ at′ r′ end′ told′ n′ more z′ same h′ q.
+    begins (running .status) (running′ .status) (rulesOf rules) (rulesOf rules′) bytes bytes′ (eventOf e) (eventOf e′) out out′ at at′ n n′
+    (wroteEvent (running .status) r end) (wroteEvent (running′ .status) r′ end′) (ap (λ (x : Running). x .status) same) told z h told′ z′ h′ more
+    (rw (event-end (running .status) r end, event-end (running′ .status) r′ end′) q))
+
+pub point-3 : Point3
+point-3 =
+    record {
+      writes = calls.write-list _ (λ list running rules bytes out r end told.
+          subst (Written (rulesOf rules) 128 (running .status) bytes (map eventOf (list .records)) (list .count) out) (sym told)
+          (writes (rulesOf rules) 128 (running .status) bytes (map eventOf (list .records)) (list .count) out));
+      reads-back = calls.write-list _ (λ list running rules bytes out r end told. again list running rules bytes out (wroteList (running .status) r end) told);
+      prefix-free = calls.write-event _ never;
+    }

@@ -1,0 +1,98 @@
+-- Point 1: whatever is read or written, the answer is an acceptance, or a refusal by a number of document 01's table; a refused write alters
+-- no byte of the output. That every input gets an answer and every call ends is proved of each function: none has a `requires`.
+use mathlib.Core.Path.{_≡_}
+use mathlib.Core.Bool.{true}
+use mathlib.Core.List.{List, [], _∷_, map}
+use Prim.Native.Nat.{ℕ}
+use contract.Lifetimes.{Lfts}
+use borrow.Fn.Kind.{PK, RK}
+use borrow.Fn.Kinds.{Out, resT}
+use Rattle.smf.specs.Answer.{Answer}
+use Rattle.smf.specs.Lists.{ListAt, heldAs}
+use Rattle.number.specs.Refusal.{numberOf}
+use Rattle.number.specs.Restricted.{triedU2, triedU4, triedU7, triedU14, triedU15, triedU24, triedU28}
+use Rattle.number.specs.Rules.{rulesOf}
+use Rattle.number.specs.Varlen.{numberRead, sliceRead, writtenTo}
+use Rattle.number.specs.declared.refusal.Refusal.{Refusal}
+use Rattle.number.proofs as number
+use Rattle.header.specs.Format.{formatRead}
+use Rattle.header.specs.Fps.{triedFps}
+use Rattle.header.specs.Smpte.{triedSmpteTime, encodedSmpteTime, askedSecond, askedPosition}
+use Rattle.header.specs.Timing.{timingRead, timingEncoded}
+use Rattle.header.proofs as header
+use Rattle.bend.specs.Bend.{bendInt, bendF32, bendF64}
+use Rattle.bend.proofs as bend
+use Rattle.message.specs.Message.{metaRead}
+use Rattle.event.specs.Event.{eventOf, eventRead}
+use Rattle.legal.specs.Legal.{verdictOf}
+use Rattle.legal.proofs as legal
+use Rattle.measure.specs.Length.{lengthSaid, formLengthSaid}
+use Rattle.measure.proofs as measure
+use Rattle.writing.specs.Write.{wroteEvent}
+use Rattle.track.specs.Read.{listRead}
+use Rattle.compose.specs.Lengths.{sizeSaid, wroteList}
+use Rattle.claims.specs.Calls.{Always, ReadU7, WriteVarlen, ReadVarlenSlice, WriteVarlenSlice, MetaMessageRead, TrackEventRead, EventListRead, WriteEvent, ListLength, WriteList}
+use Rattle.claims.specs.Table.{inTable, By, Keeps, ofNumber, ofPayload, ofMeta, ofLegality, ofLength}
+use Rattle.claims.specs.Stands.{EventOrLeft, ListStands}
+use Rattle.claims.specs.Leaves.{EventLeaves, SizeLeaves, ListLeaves}
+
+-- whatever its promise permits, a function gives a value or refuses by one of these numbers
+abbrev pub Refuses : (n : ℕ) (ps : List (PK n)) (r : RK n) → Out n ps r → {A : Type 0} → ((κs : Lfts n) → resT r κs .Denot → Answer A) → List ℕ → Type 0
+Refuses n ps r Told says ns = Always n ps r Told (λ κs a z e. By ns (says κs z))
+
+-- the functions whose refusals give the number alone, and change nothing, since nothing is lent to be changed
+pub record Numbered : Type 0 where
+  -- 18: a number above its width
+  pub u2-try-from : Refuses 0 number.restricted.u2.«try_from».Kinds.ps number.restricted.u2.«try_from».Kinds.r number.restricted.u2.«try_from».Reads.Learnt (λ κs. triedU2) (18 ∷ [])
+  pub u4-try-from : Refuses 0 number.restricted.u4.«try_from».Kinds.ps number.restricted.u4.«try_from».Kinds.r number.restricted.u4.«try_from».Reads.Learnt (λ κs. triedU4) (18 ∷ [])
+  pub u7-try-from : Refuses 0 number.restricted.u7.«try_from».Kinds.ps number.restricted.u7.«try_from».Kinds.r number.restricted.u7.«try_from».Reads.Learnt (λ κs. triedU7) (18 ∷ [])
+  pub u14-try-from : Refuses 0 number.restricted.u14.«try_from».Kinds.ps number.restricted.u14.«try_from».Kinds.r number.restricted.u14.«try_from».Reads.Learnt (λ κs. triedU14) (18 ∷ [])
+  pub u15-try-from : Refuses 0 number.restricted.u15.«try_from».Kinds.ps number.restricted.u15.«try_from».Kinds.r number.restricted.u15.«try_from».Reads.Learnt (λ κs. triedU15) (18 ∷ [])
+  pub u24-try-from : Refuses 0 number.restricted.u24.«try_from».Kinds.ps number.restricted.u24.«try_from».Kinds.r number.restricted.u24.«try_from».Reads.Learnt (λ κs. triedU24) (18 ∷ [])
+  pub u28-try-from : Refuses 0 number.restricted.u28.«try_from».Kinds.ps number.restricted.u28.«try_from».Kinds.r number.restricted.u28.«try_from».Reads.Learnt (λ κs. triedU28) (18 ∷ [])
+  -- 17: a header field under two bytes; 15: a format above 2; 16: no such rate; 18: ticks above their width
+  pub format-read : Refuses 1 header.format.Format.read.Kinds.ps header.format.Format.read.Kinds.r header.format.Format.read.Reads.Learnt (λ κs. formatRead) (15 ∷ 17 ∷ [])
+  pub timing-read : Refuses 1 header.timing.Timing.read.Kinds.ps header.timing.Timing.read.Kinds.r header.timing.Timing.read.Reads.Learnt (λ κs. timingRead) (16 ∷ 17 ∷ [])
+  pub timing-encode : Refuses 0 header.timing.Timing.encode.Kinds.ps header.timing.Timing.encode.Kinds.r header.timing.Timing.encode.Reads.Learnt (λ κs. timingEncoded) (18 ∷ [])
+  pub fps-from-int : Refuses 0 header.fps.Fps.«from_int».Kinds.ps header.fps.Fps.«from_int».Kinds.r header.fps.Fps.«from_int».Reads.Learnt (λ κs. triedFps) (16 ∷ [])
+  -- 13: an SMPTE time outside its ranges; 18 where it is written
+  pub smpte-new : Refuses 0 header.smpte.SmpteTime.new.Kinds.ps header.smpte.SmpteTime.new.Kinds.r header.smpte.SmpteTime.new.Reads.Learnt (λ κs. triedSmpteTime) (13 ∷ [])
+  pub smpte-read : Refuses 0 header.smpte.SmpteTime.read.Kinds.ps header.smpte.SmpteTime.read.Kinds.r header.smpte.SmpteTime.read.Reads.Learnt (λ κs. triedSmpteTime) (13 ∷ [])
+  pub smpte-second-f32 : Refuses 0 header.smpte.SmpteTime.«second_f32».Kinds.ps header.smpte.SmpteTime.«second_f32».Kinds.r header.smpte.SmpteTime.«second_f32».Reads.Learnt (λ κs. askedSecond) (13 ∷ [])
+  pub smpte-position : Refuses 0 header.smpte.SmpteTime.position.Kinds.ps header.smpte.SmpteTime.position.Kinds.r header.smpte.SmpteTime.position.Reads.Learnt (λ κs. askedPosition) (13 ∷ [])
+  pub smpte-encode : Refuses 0 header.smpte.SmpteTime.encode.Kinds.ps header.smpte.SmpteTime.encode.Kinds.r header.smpte.SmpteTime.encode.Reads.Learnt (λ κs. encodedSmpteTime) (18 ∷ [])
+  -- 18: a bend above its width
+  pub bend-as-int : Refuses 0 bend.PitchBend.«as_int».Kinds.ps bend.PitchBend.«as_int».Kinds.r bend.PitchBend.«as_int».Reads.Learnt (λ κs. bendInt) (18 ∷ [])
+  pub bend-as-f32 : Refuses 0 bend.PitchBend.«as_f32».Kinds.ps bend.PitchBend.«as_f32».Kinds.r bend.PitchBend.«as_f32».Reads.Learnt (λ κs. bendF32) (18 ∷ [])
+  pub bend-as-f64 : Refuses 0 bend.PitchBend.«as_f64».Kinds.ps bend.PitchBend.«as_f64».Kinds.r bend.PitchBend.«as_f64».Reads.Learnt (λ κs. bendF64) (18 ∷ [])
+  -- an event judged and measured
+  pub form-legality : Refuses 1 legal.legal.«form_legality».Kinds.ps legal.legal.«form_legality».Kinds.r legal.legal.«form_legality».Reads.Learnt (λ κs. verdictOf) ofLegality
+  pub legality : Refuses 1 legal.legal.legality.Kinds.ps legal.legal.legality.Kinds.r legal.legal.legality.Reads.Learnt (λ κs. verdictOf) ofLegality
+  pub form-measure : Refuses 1 measure.size.«form_measure».Kinds.ps measure.size.«form_measure».Kinds.r measure.size.«form_measure».Reads.Learnt (λ κs. formLengthSaid) ofLegality
+  pub measure-event : Refuses 1 measure.length.measure.Kinds.ps measure.length.measure.Kinds.r measure.length.measure.Reads.Learnt (λ κs. lengthSaid) ofLegality
+  pub event-length : Refuses 1 measure.length.«event_length».Kinds.ps measure.length.«event_length».Kinds.r measure.length.«event_length».Reads.Learnt (λ κs. lengthSaid) ofLength
+
+pub record Point1 : Type 0 where
+  -- every refusal there is has a number of the table
+  pub table : (n : Refusal) → inTable (numberOf n) ≡ true
+  pub numbered : Numbered
+  -- numbers, payloads and meta messages, read: 2, 3, 11 and 12 only where reading is strict
+  pub read-u7 : ReadU7 (λ raw at rules r. By (ofNumber (rules .strict)) (numberRead r))
+  pub read-varlen-slice : ReadVarlenSlice (λ raw at rules r. By (ofPayload (rules .strict)) (sliceRead r))
+  pub meta-message-read : MetaMessageRead (λ raw at rules r. By (ofMeta (rules .strict)) (metaRead r))
+  -- numbers and payloads, written: a refusal leaves the buffer
+  pub write-varlen : WriteVarlen (λ self out at r end. Keeps (18 ∷ 20 ∷ []) (writtenTo r) out end)
+  pub write-varlen-slice : WriteVarlenSlice (λ bytes slice out at r end. Keeps (19 ∷ 20 ∷ 22 ∷ []) (writtenTo r) out end)
+  -- one event, read: a refusal is one of 1 to 14, uses no byte, and leaves the running status that document 01 names
+  pub track-event-read : TrackEventRead (λ raw at running rules r. EventOrLeft (rulesOf rules) raw (running .status) at (eventRead r))
+  -- a list, read: it holds a list of the events that stand there; those before a refusal stand, and it gives the place of the refused delta
+  pub event-list-read : EventListRead (λ raw at running rules r.
+      (l : ListAt) × (listRead r ≡ heldAs 128 l) × ListStands (rulesOf rules) raw 128 (running .status) at l)
+  -- one event, written: a refusal leaves every byte and the running status; an acceptance changes no byte but its own
+  pub write-event : WriteEvent (λ event running rules bytes out at r end.
+      EventLeaves (running .status) at out (wroteEvent (running .status) r end) (wroteEvent (running .status) r end .written .answer))
+  -- a list, measured and written: a refusal gives its number and index, and leaves every byte and the running status
+  pub list-length : ListLength (λ list running rules bytes r.
+      SizeLeaves (rulesOf rules) bytes (map eventOf (list .records)) (list .count) (running .status) (sizeSaid (running .status) r) (sizeSaid (running .status) r .answer))
+  pub write-list : WriteList (λ list running rules bytes out r end.
+      ListLeaves (rulesOf rules) bytes (map eventOf (list .records)) (list .count) (running .status) out (wroteList (running .status) r end) (wroteList (running .status) r end .answer))
