@@ -6,8 +6,8 @@
  * back.
  *
  * What it needs. No heap, no files, nothing of libc but memcpy, memmove and memset. Nothing is kept between calls, so
- * that calls from several threads do not meet. The stack, as measured on aarch64: 17 KB for apk_list_read, 21 for
- * apk_list_length, 27 for apk_list_write, 37 for apk_list_same, under 1 KB for the others.
+ * that calls from several threads do not meet. The stack, as measured on aarch64: 21 KB for apk_list_same, 17 for the
+ * other entries on lists, under 1 KB for the rest.
  *
  * What an entry answers. A uint8_t: 0 where it accepts, else the number of a refusal (enum apk_answer). An entry that
  * refuses nothing answers its value. After a refusal every value and every byte that was lent is as it came, unless
