@@ -1,6 +1,6 @@
 -- What is known of a sheet's list, and what follows for reading, measuring, writing and comparing it.
-use mathlib.Core.Path.{_≡_, refl, sym, ap, _∙_}
-use mathlib.Core.Bool.{Bool, true, false}
+use mathlib.Core.Path.{_≡_, ap, _∙_}
+use mathlib.Core.Bool.{true, false}
 use mathlib.Core.List.{List, map}
 use Prim.Native.Nat.{ℕ}
 use lib.ListN.{length, take}
@@ -10,7 +10,7 @@ use Rattle.smf.specs.Place.{Span}
 use Rattle.smf.specs.Running.{isRunning}
 use Rattle.smf.specs.Event.{Event}
 use Rattle.smf.specs.Write.{Written, put}
-use Rattle.smf.specs.Lists.{Stop, ListAt, Held, holding, ListHeld, heldAs, ListSize, unsized, sizeList, ListWritten, listLeft, writeList, SameList}
+use Rattle.smf.specs.Lists.{ListAt, Held, holding, ListHeld, heldAs, unsized, sizeList, listLeft, writeList, SameList}
 use Rattle.number.specs.Refusal.{numberOf}
 use Rattle.number.specs.declared.refusal.Refusal.{Refusal}
 use Rattle.event.specs.Event.{eventOf}

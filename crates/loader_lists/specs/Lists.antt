@@ -1,6 +1,6 @@
 -- What reading, measuring, writing and comparing lists leave the caller with: a list is a sheet, rows of ten numbers.
 use mathlib.Core.Path.{_≡_}
-use mathlib.Core.Bool.{Bool, true, false}
+use mathlib.Core.Bool.{Bool}
 use mathlib.Core.List.{List}
 use Prim.Native.Nat.{ℕ}
 use Rattle.smf.specs.Answer.{pick, Answer, gives, refuses}

@@ -4,7 +4,6 @@ ghost use Rattle.smf.specs.Event.{Same};
 ghost use Rattle.track.specs.List.{capacity};
 ghost use Rattle.rows.specs.RowEvent.{rowEvent};
 ghost use Rattle.sheet.specs.Sheet.{sheetList};
-ghost use Rattle.same.specs.Same.{Tells};
 ghost use Rattle.loader_lists.specs.Lists.{yes, Told, SheetsTold};
 use rows::back::row_event;
 use same::events::same_event;

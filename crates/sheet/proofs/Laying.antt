@@ -1,15 +1,15 @@
 -- What the loop that puts a list's rows keeps: the rows so far stand in front.
 use mathlib.Core.Path.{_≡_, refl, sym, ap, _∙_}
 use mathlib.Core.List.{List, [], _∷_, _++_, append-assoc, append-nil}
-use Prim.Native.Nat.{ℕ, zero, suc, _+_, _*_, _≤_, _<_, min}
+use Prim.Native.Nat.{ℕ, suc, _+_, _*_, _≤_, _<_, min}
 use native.Mathlib.Omega.{arith}
 use native.Mathlib.Numerals.{add-one}
-use lib.ListN.{length, take, drop, getD, length-append, length-take}
+use lib.ListN.{length, take, getD, length-append, length-take}
 use lib.Seq.{take-suc, take-length, take-take, length-take-le}
 use Rattle.smf.specs.Place.{Span}
 use Rattle.smf.specs.Kind as kind
 use Rattle.smf.specs.Event.{Event}
-use Rattle.smf.specs.Write.{Written, over, left, put}
+use Rattle.smf.specs.Write.{over, left, put}
 use Rattle.smf.specs.Answer.{gives}
 use Rattle.smf.proofs.Write.{length-over, over-over, put-fits, put-full}
 use Rattle.rows.specs.Rows.{eventRow, kindRow, midiRow, metaRow}

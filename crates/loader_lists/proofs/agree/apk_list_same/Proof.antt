@@ -1,5 +1,4 @@
 -- `apk_list_same` meets its contract: both sheets are lists, or one is none.
-use Rattle.track.specs.List.{heldOf}
 use Rattle.loader_lists.proofs.Sheets.{is-list, is-none, first-none, second-none, both-lists}
 use borrow.Author.Needs.{needs}
 use Rattle.loader_lists.proofs.agree.apk_list_same.Statement.{statement}

@@ -1,8 +1,6 @@
 -- The loop that takes rows as a list.
-use mathlib.Core.Path.{_≡_, sym, ap, _∙_}
-use Prim.Native.Nat.{ℕ, _-_, _≤_, _<_}
+use Prim.Native.Nat.{_-_, _≤_}
 use native.Mathlib.Omega.{arith}
-use lib.ListN.{length}
 use borrow.Author.Needs.{needs}
 use Rattle.track.specs.List.{capacity}
 use Rattle.sheet.proofs.Lifting.{Lifting, lifting-first, lifting-long, lifting-more, lifting-last}
