@@ -10,7 +10,7 @@ use Rattle.number.proofs.Identical.{triedU2-injective, triedU4-injective, tried
 use Rattle.header.proofs.Identical.{rateOf-injective, triedFps-injective, formatRead-injective, timingRead-injective, timingEncoded-injective, triedSmpteTime-injective, encodedSmpteTime-injective, askedSecond-injective, askedPosition-injective}
 use Rattle.bend.proofs.Identical.{bendInt-injective, bendF32-injective, bendF64-injective}
 use Rattle.message.proofs.Identical.{messageOf-injective, metaRead-injective}
-use Rattle.event.proofs.Identical.{eventRead-injective}
+use Rattle.event.proofs.Identical.{eventOf-injective, eventRead-injective}
 use Rattle.legal.proofs.Identical.{verdictOf-injective}
 use Rattle.measure.proofs.Identical.{lengthSaid-injective, formLengthSaid-injective}
 use Rattle.writing.proofs.Identical.{putLeft-injective, wroteEvent-injective}
@@ -157,7 +157,9 @@ lists =
       write-list = λ κs a y z d e p q. wroteList-injective (a .1 .0 .status) (p ∙ sym q);
       kind-row = λ κs a y z d e p q. rowNumbers-injective (p ∙ sym q);
       event-row = λ κs a y z d e p q. p ∙ sym q;
+      row-event = λ κs a y z d e p q. eventOf-injective (p ∙ sym q);
       same-event = λ κs a y z d e p q. tells-identical _ y z p q;
+      same-list = λ κs a y z d e p q. tells-identical _ y z p q;
     }
 
 pub identical : Identical

@@ -119,7 +119,9 @@ pub record Lists : Type 0 where
   pub write-list : OneAnswerAndEnd 2 compose.write.«write_list».Kinds.ps compose.write.«write_list».Kinds.r compose.write.«write_list».Reads.Learnt (λ κs e. now (e .1 .1 .1 .1 .0))
   pub kind-row : OneAnswer 0 rows.row.«kind_row».Kinds.ps rows.row.«kind_row».Kinds.r rows.row.«kind_row».Reads.Learnt
   pub event-row : OneAnswer 0 rows.row.«event_row».Kinds.ps rows.row.«event_row».Kinds.r rows.row.«event_row».Reads.Learnt
+  pub row-event : OneAnswer 0 rows.back.«row_event».Kinds.ps rows.back.«row_event».Kinds.r rows.back.«row_event».Reads.Learnt
   pub same-event : OneAnswer 2 same.events.«same_event».Kinds.ps same.events.«same_event».Kinds.r same.events.«same_event».Reads.Learnt
+  pub same-list : OneAnswer 2 same.lists.«same_list».Kinds.ps same.lists.«same_list».Kinds.r same.lists.«same_list».Reads.Learnt
 
 -- all of them
 pub record Identical : Type 0 where
