@@ -1,8 +1,8 @@
 // SMF's printed examples, run through the port. What it must write is in the file stdout beside src/, typed from the document.
-use number::restricted::u28;
 use number::rules::Rules;
 use number::varlen::ReadNumber;
 use number::varlen::Written;
+use number::varlen::u28;
 
 // The document's table of variable-length numbers.
 const NUMBERS: [u32; 12] = [
