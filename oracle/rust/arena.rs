@@ -14,6 +14,7 @@ mod port;
 mod random;
 mod refusal;
 mod report;
+mod vectors;
 mod writing;
 
 /// What `live.rs` asks of an arena, by leaking. No comparison comes here.
@@ -30,7 +31,8 @@ impl Arena {
     }
 
     /// Compares one module of the port with this build of the Rust: MODULE [--full] [--seed N]; or lists standard
-    /// input as the Rust reads it: list. Answers the exit status: 0 where nothing differs.
+    /// input as the Rust reads it: list; or prints answers to be stored: vectors. Answers the exit status: 0 where
+    /// nothing differs.
     pub fn compare(words: impl Iterator<Item = String>) -> i32 {
         let (mut module, mut full, mut seed) = (None, false, 1);
         let mut words = words;
@@ -54,6 +56,7 @@ impl Arena {
             Some("lists") => lists::run,
             Some("listing") => listing::run,
             Some("list") => return listing::list(),
+            Some("vectors") => return vectors::print(),
             _ => return usage(),
         };
         let mode = if cfg!(feature = "strict") { "strict" } else { "lenient" };
@@ -68,6 +71,6 @@ impl Arena {
 }
 
 fn usage() -> i32 {
-    eprintln!("usage: MODULE [--full] [--seed N], where MODULE is: numbers, header, bends, events, writing, lists, listing; or: list");
+    eprintln!("usage: MODULE [--full] [--seed N], where MODULE is: numbers, header, bends, events, writing, lists, listing; or: list; or: vectors");
     2
 }

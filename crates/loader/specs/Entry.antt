@@ -1,5 +1,5 @@
 -- What an exported entry leaves its caller with: an answer, and what the values lent to it hold.
-use mathlib.Core.Bool.{not}
+use mathlib.Core.Bool.{true, not}
 use Prim.Native.Nat.{ℕ}
 use lib.Dec.{eqb}
 use Rattle.smf.specs.Answer.{Answer, gives, refuses, Rules}
@@ -7,6 +7,10 @@ use Rattle.smf.specs.Answer.{Answer, gives, refuses, Rules}
 -- the rules that a flag sets: strict where it is not 0
 abbrev pub flagged : ℕ → Rules
 flagged strict = record { strict = not (eqb strict 0) }
+
+-- the rules that a writer is given; document 01: what is strict is reading
+abbrev pub anyRules : Rules
+anyRules = record { strict = true }
 
 -- the answer: 0 where it is accepted, else the refusal's number in document 01's table
 abbrev pub answered : {A : Type 0} → Answer A → ℕ

@@ -8,7 +8,7 @@ ghost use Rattle.smf.specs.Number.{encodeNumber};
 ghost use Rattle.smf.specs.Place.{NumberAt, Span, numberAt, payloadAt};
 ghost use Rattle.smf.specs.Write.{write, numberBytes, payloadBytes};
 ghost use Rattle.number.specs.Rules.{rulesOf};
-ghost use Rattle.loader.specs.Entry.{flagged, answered, leaves};
+ghost use Rattle.loader.specs.Entry.{flagged, anyRules, answered, leaves};
 use number::rules::Range;
 use number::rules::Rules;
 use number::varlen::ReadNumber;
@@ -23,6 +23,13 @@ pub fn rules(strict: u8) -> Rules
     Rules {
         strict: strict != 0,
     }
+}
+
+// The rules that writers are given. They do not matter: what is strict is reading.
+pub fn any_rules() -> Rules
+    ensures { λ r. ⌜ rulesOf r ≡ anyRules ⌝ }
+{
+    Rules { strict: true }
 }
 
 // The number at a place: its value, and the place after it.

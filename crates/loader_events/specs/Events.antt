@@ -1,11 +1,11 @@
 -- What reading, measuring and writing an event leave the caller with: an event is a row of ten numbers.
-use mathlib.Core.Bool.{true}
 use mathlib.Core.List.{List}
 use Prim.Native.Nat.{ℕ}
-use Rattle.smf.specs.Answer.{pick, Answer, refuses, Rules}
+use Rattle.smf.specs.Answer.{pick, Answer, refuses}
 use Rattle.smf.specs.Running.{isRunning}
 use Rattle.smf.specs.Wire.{Reading, reads, refused}
 use Rattle.smf.specs.Event.{EventAt, EventWritten, writeEvent}
+use Rattle.loader.specs.Entry.{anyRules}
 use Rattle.measure.specs.Length.{Size, eventSize}
 use Rattle.rows.specs.Rows.{eventRow}
 use Rattle.rows_back.specs.RowEvent.{rowEvent}
@@ -29,10 +29,6 @@ readUsed (refused n running) = 0
 abbrev pub readRunning : Reading EventAt → ℕ
 readRunning (reads e) = e .running
 readRunning (refused n running) = running
-
--- the rules that a writer is given; document 01: what is strict is reading
-abbrev pub anyRules : Rules
-anyRules = record { strict = true }
 
 -- how long the bytes of a row's event are, and the running status after it; document 01: 1, then 18, 19, 22, 23
 abbrev pub rowSize : ℕ → List ℕ → List ℕ → Answer Size

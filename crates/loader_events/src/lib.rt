@@ -2,16 +2,15 @@
 ghost use mathlib.Core.Path.{_≡_};
 ghost use Prim.Native.Nat.{ℕ};
 ghost use Rattle.smf.specs.Event.{eventAt};
-ghost use Rattle.number.specs.Rules.{rulesOf};
 ghost use Rattle.measure.specs.Length.{Size};
 ghost use Rattle.loader.specs.Entry.{flagged, answered, leaves};
-ghost use Rattle.loader_events.specs.Events.{readAnswered, readRow, readUsed, readRunning, anyRules, rowSize, rowWritten};
+ghost use Rattle.loader_events.specs.Events.{readAnswered, readRow, readUsed, readRunning, rowSize, rowWritten};
 use event::read::ReadEvent;
 use event::track_event::TrackEvent;
+use loader::any_rules;
 use loader::rules;
 use measure::length::EventLength;
 use measure::length::event_length;
-use number::rules::Rules;
 use number::rules::Running;
 use rows::event_row;
 use rows_back::row_event;
@@ -51,13 +50,6 @@ pub extern "C" fn apk_event_read(
             0
         }
     }
-}
-
-// The rules that writers are given. They do not matter: what is strict is reading.
-pub fn any_rules() -> Rules
-    ensures { λ r. ⌜ rulesOf r ≡ anyRules ⌝ }
-{
-    Rules { strict: true }
 }
 
 // How many bytes a row's event has from a running status, and the running status after it. A refusal leaves both as they came.

@@ -17,7 +17,7 @@ use Rattle.track.specs.Read.{stopOf, listRead}
 use Rattle.track.specs.declared.read.ReadList.{ReadList}
 use Rattle.sheet.specs.Sheet.{sheetOf}
 use Rattle.sheet_back.specs.SheetList.{sheetList}
-use Rattle.loader_events.specs.Events.{anyRules}
+use Rattle.loader.specs.Entry.{anyRules}
 use Rattle.loader_lists.specs.Lists.{stopNumber, sheetPut, sheetSize, sheetWritten}
 
 module _ (running : ℕ) (payload cells : List ℕ) (count : ℕ) where

@@ -8,8 +8,7 @@ use Rattle.smf.specs.Lists.{Stop, ended, full, stopped, ListAt, listAt, Held, L
 use Rattle.track.specs.List.{capacity}
 use Rattle.sheet.specs.Sheet.{sheetOf}
 use Rattle.sheet_back.specs.SheetList.{sheetList}
-use Rattle.loader.specs.Entry.{flagged}
-use Rattle.loader_events.specs.Events.{anyRules}
+use Rattle.loader.specs.Entry.{flagged, anyRules}
 
 -- Reading
 

@@ -8,7 +8,7 @@ use compose::write_list;
 use lengths::ListLength;
 use lengths::ListRefused;
 use lengths::list_length;
-use loader_events::any_rules;
+use loader::any_rules;
 use number::rules::Running;
 use refusal::Refusal;
 use sheet_back::Rows;

@@ -1,0 +1,124 @@
+// Numbers and bytes of a line, taken out and put in.
+use crate::line::CELLS;
+
+// The most bytes that a line has, given or written.
+pub const BYTES: usize = 2048;
+
+// The cells of a list's rows: 128 of ten.
+pub const ROWS: usize = 1280;
+
+pub fn byte(n: u64) -> u8 {
+    (n % 256) as u8
+}
+
+pub fn wide(n: u8) -> u64 {
+    n as u64
+}
+
+// A number of a line; 0 where there is none.
+pub fn number(cells: &[u64], i: usize) -> u64 {
+    if i < cells.len() {
+        return cells[i];
+    }
+    0
+}
+
+pub fn number_byte(cells: &[u64], i: usize) -> u8 {
+    byte(number(cells, i))
+}
+
+// A place or a count of a line.
+pub fn place(cells: &[u64], i: usize) -> usize {
+    number(cells, i) as usize
+}
+
+// Some of the numbers; none where they are not all there.
+pub fn part(cells: &[u64], from: usize, to: usize) -> &[u64] {
+    if to <= cells.len() {
+        if from <= to {
+            return &cells[from..to];
+        }
+    }
+    let end = cells.len();
+    &cells[end..]
+}
+
+// Ten numbers, from one on.
+pub fn row(cells: &[u64], from: usize) -> [u64; 10] {
+    if CELLS <= from {
+        return [0; 10];
+    }
+    [
+        number(cells, from),
+        number(cells, from + 1),
+        number(cells, from + 2),
+        number(cells, from + 3),
+        number(cells, from + 4),
+        number(cells, from + 5),
+        number(cells, from + 6),
+        number(cells, from + 7),
+        number(cells, from + 8),
+        number(cells, from + 9),
+    ]
+}
+
+// Numbers as bytes, and how many they are.
+pub fn bytes_of(cells: &[u64], bytes: &mut [u8; BYTES]) -> usize {
+    let mut n: usize = 0;
+    while n < cells.len() {
+        if BYTES <= n {
+            return n;
+        }
+        bytes[n] = byte(cells[n]);
+        n += 1;
+    }
+    n
+}
+
+// Bytes put behind the first numbers of an answer. How many numbers there are then.
+pub fn put_bytes(bytes: &[u8], found: &mut [u64; CELLS], at: usize) -> usize {
+    let mut count = at;
+    let mut i: usize = 0;
+    while i < bytes.len() {
+        if CELLS <= count {
+            return count;
+        }
+        found[count] = wide(bytes[i]);
+        count += 1;
+        i += 1;
+    }
+    count
+}
+
+// Rows put behind the first numbers of an answer. How many numbers there are then.
+pub fn put_rows(rows: &[u64; ROWS], count: usize, found: &mut [u64; CELLS], at: usize) -> usize {
+    let mut end = at;
+    let mut i: usize = 0;
+    while i < ROWS {
+        if count <= i / 10 {
+            return end;
+        }
+        if CELLS <= end {
+            return end;
+        }
+        found[end] = rows[i];
+        end += 1;
+        i += 1;
+    }
+    end
+}
+
+// Whether the numbers are those that were found.
+pub fn same(cells: &[u64], found: &[u64]) -> bool {
+    if cells.len() != found.len() {
+        return false;
+    }
+    let mut i: usize = 0;
+    while i < cells.len() {
+        if cells[i] != found[i] {
+            return false;
+        }
+        i += 1;
+    }
+    true
+}
