@@ -23,8 +23,8 @@
  * What is proved. Of each entry, for all numbers and bytes that it can be given: it ends, it reads and writes within
  * the slices only, its answer is the one that its definition gives, and so is what each lent value and each lent byte
  * holds at the end, after a refusal too. The definition is named with each entry; the definitions stand in
- * crates/smf/specs and in the specs of the crates loader, rows, sheet and loader_lists, and are written from Standard
- * MIDI Files 1.0 and document 01, not from the code. Proved of the definitions: what is written is read back, strictly
+ * crates/smf/specs and in the specs of the crates rows, rows_back, sheet and loader to loader_same, and are written
+ * from Standard MIDI Files 1.0 and document 01, not from the code. Proved of the definitions: what is written is read back, strictly
  * and leniently, whatever follows it; every event that is read is legal; no bytes that are read strictly as an event
  * are shorter than those that are written for it. Not proved, but compared in runs: that midly 0.5.3 answers alike
  * (docs/DIFFERENCES.md). Assumed: Rattle's prover and compiler, LLVM, and that the caller keeps to "Pointers" above. */
@@ -174,7 +174,7 @@ uint8_t apk_event_read(const uint8_t *bytes, size_t bytes_len, size_t at, uint8_
                        uint64_t row[10], size_t *used, uint8_t *after);
 
 /* How many bytes a row's event has when written from a running status, and the running status after it.
- * Refuses 1, 18, 19, 22, 23; then both are as they came. Definition: rowSize of loader. */
+ * Refuses 1, 18, 19, 22, 23; then both are as they came. Definition: rowSize of loader_events. */
 uint8_t apk_event_length(const uint64_t row[10], const uint8_t *payload, size_t payload_len, uint8_t running,
                          size_t *length, uint8_t *after);
 

@@ -9,8 +9,8 @@ use lib.Ieee.{Float, Format, mul, ofInt, fits, toSigned}
 use mir.Facts.{toZ-ofZ}
 use mir.Syntax.{w16, w64}
 use mir.Val.{SFits, toZ, ofZ}
-use Rattle.number.specs.Refusal.{numberOf}
-use Rattle.number.specs.declared.refusal.Refusal.{Refusal}
+use Rattle.refusal.specs.Refusal.{numberOf}
+use Rattle.refusal.specs.declared.Refusal.{Refusal}
 use Rattle.smf.specs.Answer.{Answer, gives, refuses}
 use Rattle.smf.specs.Bend.{scaled, askBend, askFloat, GivesQuotient}
 use Rattle.smf.proofs.BendFloat.{Cut, scale, step, clamped-product}

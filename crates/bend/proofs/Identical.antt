@@ -4,7 +4,7 @@ use lib.IntN.{ℤ}
 use lib.Ieee.{Float}
 use Rattle.smf.specs.Answer.{Answer, gives, refuses}
 use Rattle.smf.proofs.Answer.{injective}
-use Rattle.number.proofs.RefusalNumbers.{refusalOf, number-back}
+use Rattle.refusal.proofs.RefusalNumbers.{refusalOf, number-back}
 use Rattle.bend.specs.Bend.{bendInt, bendF32, bendF64}
 use Rattle.bend.specs.declared.BendInt.{BendInt}
 use Rattle.bend.specs.declared.BendInt.the-variants as int

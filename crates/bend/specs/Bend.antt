@@ -3,7 +3,7 @@ use lib.IntN.{ℤ, pos}
 use mathlib.Core.Bool.{true, false}
 use lib.Ieee.{Float, fin, lt}
 use Rattle.smf.specs.Answer.{pick, Answer, gives, refuses}
-use Rattle.number.specs.Refusal.{numberOf}
+use Rattle.refusal.specs.Refusal.{numberOf}
 use Rattle.bend.specs.declared.BendInt.{BendInt}
 use Rattle.bend.specs.declared.BendInt.the-variants as int
 use Rattle.bend.specs.declared.BendF32.{BendF32}

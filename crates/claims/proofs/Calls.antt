@@ -9,16 +9,17 @@ use Rattle.smf.specs.MetaAt.{metaAt}
 use Rattle.smf.specs.Event.{eventAt, writeEvent}
 use Rattle.smf.specs.Lists.{listAt, heldAs, sizeList, writeList}
 use Rattle.number.specs.Rules.{rulesOf}
-use Rattle.number.specs.Varlen.{numberRead, sliceRead, writeLeft}
+use Rattle.number.specs.Varlen.{numberRead, writeLeft}
+use Rattle.payload.specs.Payload.{sliceRead}
 use Rattle.number.specs.declared.rules.Rules.{Rules}
 use Rattle.number.specs.declared.rules.Running.{Running}
 use Rattle.number.specs.declared.rules.Range.{Range}
-use Rattle.number.specs.declared.restricted.u28.{u28}
+use Rattle.number.specs.declared.varlen.u28.{u28}
 use Rattle.number.specs.declared.varlen.ReadNumber.{ReadNumber}
-use Rattle.number.specs.declared.varlen.ReadSlice.{ReadSlice}
+use Rattle.payload.specs.declared.ReadSlice.{ReadSlice}
 use Rattle.number.specs.declared.varlen.Written.{Written}
-use Rattle.message.specs.Message.{metaRead}
-use Rattle.message.specs.declared.meta.ReadMeta.{ReadMeta}
+use Rattle.meta.specs.Meta.{metaRead}
+use Rattle.meta.specs.declared.ReadMeta.{ReadMeta}
 use Rattle.event.specs.Event.{eventOf, eventRead}
 use Rattle.event.specs.declared.track_event.TrackEvent.{TrackEvent}
 use Rattle.event.specs.declared.read.ReadEvent.{ReadEvent}

@@ -6,10 +6,14 @@ use lib.ListN.{getD}
 use Rattle.smf.specs.Write.{Written}
 use Rattle.number.specs.Varlen.{writeLeft}
 use Rattle.number.specs.declared.varlen.Written as varlen
-use Rattle.number.proofs.Identical.{triedU2-injective, triedU4-injective, triedU7-injective, triedU14-injective, triedU15-injective, triedU24-injective, triedU28-injective, numberRead-injective, sliceRead-injective, writtenTo-injective}
-use Rattle.header.proofs.Identical.{rateOf-injective, triedFps-injective, formatRead-injective, timingRead-injective, timingEncoded-injective, triedSmpteTime-injective, encodedSmpteTime-injective, askedSecond-injective, askedPosition-injective}
+use Rattle.restricted.proofs.Identical.{triedU2-injective, triedU4-injective, triedU7-injective, triedU14-injective, triedU15-injective, triedU24-injective}
+use Rattle.number.proofs.Identical.{triedU28-injective, numberRead-injective, writtenTo-injective}
+use Rattle.payload.proofs.Identical.{sliceRead-injective}
+use Rattle.header.proofs.Identical.{rateOf-injective, triedFps-injective, formatRead-injective, timingRead-injective, timingEncoded-injective}
+use Rattle.smpte.proofs.Identical.{triedSmpteTime-injective, encodedSmpteTime-injective, askedSecond-injective, askedPosition-injective}
 use Rattle.bend.proofs.Identical.{bendInt-injective, bendF32-injective, bendF64-injective}
-use Rattle.message.proofs.Identical.{messageOf-injective, metaRead-injective}
+use Rattle.midi.proofs.Identical.{messageOf-injective}
+use Rattle.meta.proofs.Identical.{metaRead-injective}
 use Rattle.event.proofs.Identical.{eventOf-injective, eventRead-injective}
 use Rattle.legal.proofs.Identical.{verdictOf-injective}
 use Rattle.measure.proofs.Identical.{lengthSaid-injective, formLengthSaid-injective}
@@ -17,7 +21,7 @@ use Rattle.writing.proofs.Identical.{putLeft-injective, wroteEvent-injective}
 use Rattle.track.proofs.Identical.{heldOf-injective, listRead-injective}
 use Rattle.compose.proofs.Identical.{sizeSaid-injective, wroteList-injective}
 use Rattle.rows.specs.Rows.{rowNumbers}
-use Rattle.rows.specs.declared.row.Row.{Row}
+use Rattle.rows.specs.declared.Row.{Row}
 use Rattle.same.proofs.Identical.{tells-identical}
 use Rattle.claims.specs.Identical.{Numbers, Headers, Bends, Events, Lists, Identical}
 

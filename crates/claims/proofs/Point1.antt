@@ -10,12 +10,12 @@ use Rattle.smf.specs.Write as smf
 use Rattle.smf.specs.Write.{numberBytes, payloadBytes}
 use Rattle.smf.specs.Event.{EventWritten}
 use Rattle.smf.specs.Lists.{ListAt, listAt, heldAs, ListSize, ListWritten}
-use Rattle.number.specs.Refusal.{numberOf}
+use Rattle.refusal.specs.Refusal.{numberOf}
 use Rattle.number.specs.Rules.{rulesOf}
 use Rattle.number.specs.declared.rules.Rules.{Rules}
 use Rattle.number.specs.declared.rules.Running.{Running}
-use Rattle.number.specs.declared.refusal.Refusal.{Refusal}
-use Rattle.number.specs.declared.refusal.Refusal.the-variants as refusal
+use Rattle.refusal.specs.declared.Refusal.{Refusal}
+use Rattle.refusal.specs.declared.Refusal.the-variants as refusal
 use Rattle.header.specs.Timing.{timingOf}
 use Rattle.event.specs.Event.{eventOf}
 use Rattle.track.specs.Read.{listRead}

@@ -22,10 +22,10 @@ use Rattle.smf.specs.Kind.{isText, narrow, calledMeta}
 use Rattle.smf.specs.MetaAt.{readMetaMessage, metaAt}
 use Rattle.smf.specs.Event.{Event, kindFits, kindLoad, inside, isNamed, kindMisnamed, noSpan, spanLength, legal, eventBytes}
 use Rattle.smf.proofs.Answer.{by-test, pick-both, pick-test, both}
-use Rattle.message.specs.Message.{spanOf}
+use Rattle.meta.specs.Meta.{spanOf}
 use Rattle.legal.specs.Legal.{settled, loadAllowed, unknownAllowed, formAllowed, eventAllowed}
-use Rattle.legal.specs.declared.form.Form.{Form}
-use Rattle.legal.specs.declared.form.Form.the-variants.{AboveWidth, System, Typed, Unknown, Fixed}
+use Rattle.shape.specs.declared.form.Form.{Form}
+use Rattle.shape.specs.declared.form.Form.the-variants.{AboveWidth, System, Typed, Unknown, Fixed}
 use Rattle.measure.specs.Length.{eventSize}
 use Rattle.claims.specs.Table.{inTable, among, OneOf, By, Keeps, ofNumber, ofPayload, ofMeta, ofLegality, ofLength}
 

@@ -12,11 +12,11 @@ use borrow.Fn.Kinds.{Dens, Out, resT, endedOf}
 use Rattle.number.specs.declared.rules.Rules.{Rules}
 use Rattle.number.specs.declared.rules.Running.{Running}
 use Rattle.number.specs.declared.rules.Range.{Range}
-use Rattle.number.specs.declared.restricted.u28.{u28}
+use Rattle.number.specs.declared.varlen.u28.{u28}
 use Rattle.number.specs.declared.varlen.ReadNumber.{ReadNumber}
-use Rattle.number.specs.declared.varlen.ReadSlice.{ReadSlice}
+use Rattle.payload.specs.declared.ReadSlice.{ReadSlice}
 use Rattle.number.specs.declared.varlen.Written.{Written}
-use Rattle.message.specs.declared.meta.ReadMeta.{ReadMeta}
+use Rattle.meta.specs.declared.ReadMeta.{ReadMeta}
 use Rattle.event.specs.declared.track_event.TrackEvent.{TrackEvent}
 use Rattle.event.specs.declared.read.ReadEvent.{ReadEvent}
 use Rattle.track.specs.declared.list.EventList.{EventList}
@@ -24,11 +24,11 @@ use Rattle.track.specs.declared.read.ReadList.{ReadList}
 use Rattle.writing.specs.declared.write.WroteEvent.{WroteEvent}
 use Rattle.compose.specs.declared.length.ListLength as length
 use Rattle.compose.specs.declared.write.WroteList.{WroteList}
-use Rattle.number.proofs.restricted.u28.read_u7 as read-u7
-use Rattle.number.proofs.restricted.u28.write_varlen as write-varlen
-use Rattle.number.proofs.varlen.read_varlen_slice as read-varlen-slice
-use Rattle.number.proofs.varlen.write_varlen_slice as write-varlen-slice
-use Rattle.message.proofs.meta.MetaMessage.read as read-meta
+use Rattle.number.proofs.varlen.u28.read_u7 as read-u7
+use Rattle.number.proofs.varlen.u28.write_varlen as write-varlen
+use Rattle.payload.proofs.read_varlen_slice as read-varlen-slice
+use Rattle.payload.proofs.write_varlen_slice as write-varlen-slice
+use Rattle.meta.proofs.MetaMessage.read as read-meta
 use Rattle.event.proofs.track_event.TrackEvent.read as read-event
 use Rattle.track.proofs.list.EventList.read as read-list
 use Rattle.writing.proofs.write.write_event as write-event

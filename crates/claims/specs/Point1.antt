@@ -9,20 +9,24 @@ use borrow.Fn.Kind.{PK, RK}
 use borrow.Fn.Kinds.{Out, resT}
 use Rattle.smf.specs.Answer.{Answer}
 use Rattle.smf.specs.Lists.{ListAt, heldAs}
-use Rattle.number.specs.Refusal.{numberOf}
-use Rattle.number.specs.Restricted.{triedU2, triedU4, triedU7, triedU14, triedU15, triedU24, triedU28}
+use Rattle.refusal.specs.Refusal.{numberOf}
+use Rattle.restricted.specs.Restricted.{triedU2, triedU4, triedU7, triedU14, triedU15, triedU24}
 use Rattle.number.specs.Rules.{rulesOf}
-use Rattle.number.specs.Varlen.{numberRead, sliceRead, writtenTo}
-use Rattle.number.specs.declared.refusal.Refusal.{Refusal}
+use Rattle.number.specs.Varlen.{triedU28, numberRead, writtenTo}
+use Rattle.payload.specs.Payload.{sliceRead}
+use Rattle.refusal.specs.declared.Refusal.{Refusal}
+use Rattle.restricted.proofs as restricted
 use Rattle.number.proofs as number
+use Rattle.payload.proofs as payload
 use Rattle.header.specs.Format.{formatRead}
 use Rattle.header.specs.Fps.{triedFps}
-use Rattle.header.specs.Smpte.{triedSmpteTime, encodedSmpteTime, askedSecond, askedPosition}
+use Rattle.smpte.specs.Smpte.{triedSmpteTime, encodedSmpteTime, askedSecond, askedPosition}
 use Rattle.header.specs.Timing.{timingRead, timingEncoded}
 use Rattle.header.proofs as header
+use Rattle.smpte.proofs as smpte
 use Rattle.bend.specs.Bend.{bendInt, bendF32, bendF64}
 use Rattle.bend.proofs as bend
-use Rattle.message.specs.Message.{metaRead}
+use Rattle.meta.specs.Meta.{metaRead}
 use Rattle.event.specs.Event.{eventOf, eventRead}
 use Rattle.legal.specs.Legal.{verdictOf}
 use Rattle.legal.proofs as legal
@@ -43,31 +47,31 @@ Refuses n ps r Told says ns = Always n ps r Told (λ κs a z e. By ns (says κs 
 -- the functions whose refusals give the number alone, and change nothing, since nothing is lent to be changed
 pub record Numbered : Type 0 where
   -- 18: a number above its width
-  pub u2-try-from : Refuses 0 number.restricted.u2.«try_from».Kinds.ps number.restricted.u2.«try_from».Kinds.r number.restricted.u2.«try_from».Reads.Learnt (λ κs. triedU2) (18 ∷ [])
-  pub u4-try-from : Refuses 0 number.restricted.u4.«try_from».Kinds.ps number.restricted.u4.«try_from».Kinds.r number.restricted.u4.«try_from».Reads.Learnt (λ κs. triedU4) (18 ∷ [])
-  pub u7-try-from : Refuses 0 number.restricted.u7.«try_from».Kinds.ps number.restricted.u7.«try_from».Kinds.r number.restricted.u7.«try_from».Reads.Learnt (λ κs. triedU7) (18 ∷ [])
-  pub u14-try-from : Refuses 0 number.restricted.u14.«try_from».Kinds.ps number.restricted.u14.«try_from».Kinds.r number.restricted.u14.«try_from».Reads.Learnt (λ κs. triedU14) (18 ∷ [])
-  pub u15-try-from : Refuses 0 number.restricted.u15.«try_from».Kinds.ps number.restricted.u15.«try_from».Kinds.r number.restricted.u15.«try_from».Reads.Learnt (λ κs. triedU15) (18 ∷ [])
-  pub u24-try-from : Refuses 0 number.restricted.u24.«try_from».Kinds.ps number.restricted.u24.«try_from».Kinds.r number.restricted.u24.«try_from».Reads.Learnt (λ κs. triedU24) (18 ∷ [])
-  pub u28-try-from : Refuses 0 number.restricted.u28.«try_from».Kinds.ps number.restricted.u28.«try_from».Kinds.r number.restricted.u28.«try_from».Reads.Learnt (λ κs. triedU28) (18 ∷ [])
+  pub u2-try-from : Refuses 0 restricted.u2.«try_from».Kinds.ps restricted.u2.«try_from».Kinds.r restricted.u2.«try_from».Reads.Learnt (λ κs. triedU2) (18 ∷ [])
+  pub u4-try-from : Refuses 0 restricted.u4.«try_from».Kinds.ps restricted.u4.«try_from».Kinds.r restricted.u4.«try_from».Reads.Learnt (λ κs. triedU4) (18 ∷ [])
+  pub u7-try-from : Refuses 0 restricted.u7.«try_from».Kinds.ps restricted.u7.«try_from».Kinds.r restricted.u7.«try_from».Reads.Learnt (λ κs. triedU7) (18 ∷ [])
+  pub u14-try-from : Refuses 0 restricted.u14.«try_from».Kinds.ps restricted.u14.«try_from».Kinds.r restricted.u14.«try_from».Reads.Learnt (λ κs. triedU14) (18 ∷ [])
+  pub u15-try-from : Refuses 0 restricted.u15.«try_from».Kinds.ps restricted.u15.«try_from».Kinds.r restricted.u15.«try_from».Reads.Learnt (λ κs. triedU15) (18 ∷ [])
+  pub u24-try-from : Refuses 0 restricted.u24.«try_from».Kinds.ps restricted.u24.«try_from».Kinds.r restricted.u24.«try_from».Reads.Learnt (λ κs. triedU24) (18 ∷ [])
+  pub u28-try-from : Refuses 0 number.varlen.u28.«try_from».Kinds.ps number.varlen.u28.«try_from».Kinds.r number.varlen.u28.«try_from».Reads.Learnt (λ κs. triedU28) (18 ∷ [])
   -- 17: a header field under two bytes; 15: a format above 2; 16: no such rate; 18: ticks above their width
   pub format-read : Refuses 1 header.format.Format.read.Kinds.ps header.format.Format.read.Kinds.r header.format.Format.read.Reads.Learnt (λ κs. formatRead) (15 ∷ 17 ∷ [])
   pub timing-read : Refuses 1 header.timing.Timing.read.Kinds.ps header.timing.Timing.read.Kinds.r header.timing.Timing.read.Reads.Learnt (λ κs. timingRead) (16 ∷ 17 ∷ [])
   pub timing-encode : Refuses 0 header.timing.Timing.encode.Kinds.ps header.timing.Timing.encode.Kinds.r header.timing.Timing.encode.Reads.Learnt (λ κs. timingEncoded) (18 ∷ [])
   pub fps-from-int : Refuses 0 header.fps.Fps.«from_int».Kinds.ps header.fps.Fps.«from_int».Kinds.r header.fps.Fps.«from_int».Reads.Learnt (λ κs. triedFps) (16 ∷ [])
   -- 13: an SMPTE time outside its ranges; 18 where it is written
-  pub smpte-new : Refuses 0 header.smpte.SmpteTime.new.Kinds.ps header.smpte.SmpteTime.new.Kinds.r header.smpte.SmpteTime.new.Reads.Learnt (λ κs. triedSmpteTime) (13 ∷ [])
-  pub smpte-read : Refuses 0 header.smpte.SmpteTime.read.Kinds.ps header.smpte.SmpteTime.read.Kinds.r header.smpte.SmpteTime.read.Reads.Learnt (λ κs. triedSmpteTime) (13 ∷ [])
-  pub smpte-second-f32 : Refuses 0 header.smpte.SmpteTime.«second_f32».Kinds.ps header.smpte.SmpteTime.«second_f32».Kinds.r header.smpte.SmpteTime.«second_f32».Reads.Learnt (λ κs. askedSecond) (13 ∷ [])
-  pub smpte-position : Refuses 0 header.smpte.SmpteTime.position.Kinds.ps header.smpte.SmpteTime.position.Kinds.r header.smpte.SmpteTime.position.Reads.Learnt (λ κs. askedPosition) (13 ∷ [])
-  pub smpte-encode : Refuses 0 header.smpte.SmpteTime.encode.Kinds.ps header.smpte.SmpteTime.encode.Kinds.r header.smpte.SmpteTime.encode.Reads.Learnt (λ κs. encodedSmpteTime) (18 ∷ [])
+  pub smpte-new : Refuses 0 smpte.SmpteTime.new.Kinds.ps smpte.SmpteTime.new.Kinds.r smpte.SmpteTime.new.Reads.Learnt (λ κs. triedSmpteTime) (13 ∷ [])
+  pub smpte-read : Refuses 0 smpte.SmpteTime.read.Kinds.ps smpte.SmpteTime.read.Kinds.r smpte.SmpteTime.read.Reads.Learnt (λ κs. triedSmpteTime) (13 ∷ [])
+  pub smpte-second-f32 : Refuses 0 smpte.SmpteTime.«second_f32».Kinds.ps smpte.SmpteTime.«second_f32».Kinds.r smpte.SmpteTime.«second_f32».Reads.Learnt (λ κs. askedSecond) (13 ∷ [])
+  pub smpte-position : Refuses 0 smpte.SmpteTime.position.Kinds.ps smpte.SmpteTime.position.Kinds.r smpte.SmpteTime.position.Reads.Learnt (λ κs. askedPosition) (13 ∷ [])
+  pub smpte-encode : Refuses 0 smpte.SmpteTime.encode.Kinds.ps smpte.SmpteTime.encode.Kinds.r smpte.SmpteTime.encode.Reads.Learnt (λ κs. encodedSmpteTime) (18 ∷ [])
   -- 18: a bend above its width
   pub bend-as-int : Refuses 0 bend.PitchBend.«as_int».Kinds.ps bend.PitchBend.«as_int».Kinds.r bend.PitchBend.«as_int».Reads.Learnt (λ κs. bendInt) (18 ∷ [])
   pub bend-as-f32 : Refuses 0 bend.PitchBend.«as_f32».Kinds.ps bend.PitchBend.«as_f32».Kinds.r bend.PitchBend.«as_f32».Reads.Learnt (λ κs. bendF32) (18 ∷ [])
   pub bend-as-f64 : Refuses 0 bend.PitchBend.«as_f64».Kinds.ps bend.PitchBend.«as_f64».Kinds.r bend.PitchBend.«as_f64».Reads.Learnt (λ κs. bendF64) (18 ∷ [])
   -- an event judged and measured
-  pub form-legality : Refuses 1 legal.legal.«form_legality».Kinds.ps legal.legal.«form_legality».Kinds.r legal.legal.«form_legality».Reads.Learnt (λ κs. verdictOf) ofLegality
-  pub legality : Refuses 1 legal.legal.legality.Kinds.ps legal.legal.legality.Kinds.r legal.legal.legality.Reads.Learnt (λ κs. verdictOf) ofLegality
+  pub form-legality : Refuses 1 legal.«form_legality».Kinds.ps legal.«form_legality».Kinds.r legal.«form_legality».Reads.Learnt (λ κs. verdictOf) ofLegality
+  pub legality : Refuses 1 legal.legality.Kinds.ps legal.legality.Kinds.r legal.legality.Reads.Learnt (λ κs. verdictOf) ofLegality
   pub form-measure : Refuses 1 measure.size.«form_measure».Kinds.ps measure.size.«form_measure».Kinds.r measure.size.«form_measure».Reads.Learnt (λ κs. formLengthSaid) ofLegality
   pub measure-event : Refuses 1 measure.length.measure.Kinds.ps measure.length.measure.Kinds.r measure.length.measure.Reads.Learnt (λ κs. lengthSaid) ofLegality
   pub event-length : Refuses 1 measure.length.«event_length».Kinds.ps measure.length.«event_length».Kinds.r measure.length.«event_length».Reads.Learnt (λ κs. lengthSaid) ofLength

@@ -3,8 +3,8 @@ use mathlib.Core.Path.{_≡_, refl, ap}
 use mathlib.Core.List.{List}
 use Prim.Native.Nat.{ℕ}
 use Rattle.smf.specs.Lists as smf
-use Rattle.number.specs.declared.refusal.Refusal.{Refusal}
-use Rattle.number.proofs.RefusalNumbers.{refusalOf, number-back}
+use Rattle.refusal.specs.declared.Refusal.{Refusal}
+use Rattle.refusal.proofs.RefusalNumbers.{refusalOf, number-back}
 use Rattle.smf.proofs.Answer.{injective}
 use Rattle.compose.specs.Lengths.{sizeSaid, wroteList}
 use Rattle.compose.specs.declared.length.ListLength.{ListLength}

@@ -15,8 +15,8 @@ use Rattle.smf.specs.Lists.{RecordsLegal, listed, check, eventAfter, encodeList
 use Rattle.smf.proofs.Event.{legal-exactly}
 use Rattle.smf.proofs.Checks.{check-given, legal-more, legal-stops}
 use Rattle.smf.proofs.ListWrites.{encode-next, after-next}
-use Rattle.number.specs.Refusal.{numberOf}
-use Rattle.number.specs.declared.refusal.Refusal.{Refusal}
+use Rattle.refusal.specs.Refusal.{numberOf}
+use Rattle.refusal.specs.declared.Refusal.{Refusal}
 use Rattle.legal.specs.Legal.{settled}
 use Rattle.measure.specs.Length as measured
 use Rattle.measure.specs.Length.{lengthSaid, eventSize}

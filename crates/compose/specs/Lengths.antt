@@ -2,7 +2,7 @@
 use mathlib.Core.List.{List}
 use Prim.Native.Nat.{ℕ}
 use Rattle.smf.specs.Lists.{wrote, ListSize, unsized, ListWritten, listLeft}
-use Rattle.number.specs.Refusal.{numberOf}
+use Rattle.refusal.specs.Refusal.{numberOf}
 use Rattle.compose.specs.declared.length.ListLength.{ListLength}
 use Rattle.compose.specs.declared.length.ListLength.the-variants as long
 use Rattle.compose.specs.declared.write.WroteList.{WroteList}

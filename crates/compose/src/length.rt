@@ -11,9 +11,9 @@ ghost use Rattle.compose.specs.Lengths.{sizeSaid};
 use measure::length::EventLength;
 use measure::length::Size;
 use measure::length::measure;
-use number::refusal::Refusal;
 use number::rules::Rules;
 use number::rules::Running;
+use refusal::Refusal;
 use track::list::CAPACITY;
 use track::list::EventList;
 

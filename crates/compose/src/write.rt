@@ -13,9 +13,9 @@ use crate::length::ListLength;
 use crate::length::ListRefused;
 use crate::length::list_length;
 use measure::length::Size;
-use number::refusal::Refusal;
 use number::rules::Rules;
 use number::rules::Running;
+use refusal::Refusal;
 use track::list::EventList;
 use writing::put::put_event;
 

@@ -6,11 +6,12 @@ use Rattle.smf.specs.Wire as wire
 use Rattle.smf.specs.Kind as kind
 use Rattle.smf.specs.Event as smf
 use Rattle.smf.proofs.Answer.{injective}
-use Rattle.number.specs.declared.refusal.Refusal.{Refusal}
-use Rattle.number.proofs.RefusalNumbers.{refusalOf, number-back}
-use Rattle.message.proofs.Identical.{backMessage, sameMessage, backRange, backMeta, sameMeta}
-use Rattle.message.specs.declared.midi.MidiMessage.{MidiMessage}
-use Rattle.message.specs.declared.meta.MetaMessage.{MetaMessage}
+use Rattle.refusal.specs.declared.Refusal.{Refusal}
+use Rattle.refusal.proofs.RefusalNumbers.{refusalOf, number-back}
+use Rattle.midi.proofs.Identical.{backMessage, sameMessage}
+use Rattle.meta.proofs.Identical.{backRange, backMeta, sameMeta}
+use Rattle.midi.specs.declared.MidiMessage.{MidiMessage}
+use Rattle.meta.specs.declared.MetaMessage.{MetaMessage}
 use Rattle.event.specs.Event.{kindOf, eventOf, eventRead}
 use Rattle.event.specs.declared.track_event.TrackEventKind.{TrackEventKind}
 use Rattle.event.specs.declared.track_event.TrackEventKind.the-variants as track

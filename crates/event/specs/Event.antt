@@ -4,8 +4,9 @@ use Rattle.smf.specs.Place.{Span}
 use Rattle.smf.specs.Wire.{Reading, reads, refused}
 use Rattle.smf.specs.Kind as kind
 use Rattle.smf.specs.Event as smf
-use Rattle.number.specs.Refusal.{numberOf}
-use Rattle.message.specs.Message.{messageOf, metaOf, spanOf}
+use Rattle.refusal.specs.Refusal.{numberOf}
+use Rattle.midi.specs.Midi.{messageOf}
+use Rattle.meta.specs.Meta.{metaOf, spanOf}
 use Rattle.event.specs.declared.track_event.TrackEventKind.{TrackEventKind}
 use Rattle.event.specs.declared.track_event.TrackEventKind.the-variants as track
 use Rattle.event.specs.declared.track_event.TrackEvent.{TrackEvent}

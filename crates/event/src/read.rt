@@ -10,22 +10,22 @@ ghost use Rattle.smf.specs.Wire.{withPayload, system, readChannel, readMeta, re
 ghost use Rattle.smf.specs.Payload.{readPayload};
 ghost use Rattle.smf.specs.Event as smf;
 ghost use Rattle.number.specs.Rules.{rulesOf};
-ghost use Rattle.number.specs.Refusal.{numberOf};
+ghost use Rattle.refusal.specs.Refusal.{numberOf};
 ghost use Rattle.event.specs.Event.{kindOf, eventUsed, eventRead};
 use crate::track_event::TrackEvent;
 use crate::track_event::TrackEventKind;
-use message::meta::MetaMessage;
-use message::meta::ReadMeta;
-use message::midi::MidiMessage;
-use number::refusal::Refusal;
-use number::restricted::u4;
-use number::restricted::u7;
-use number::restricted::u28;
+use meta::MetaMessage;
+use meta::ReadMeta;
+use midi::MidiMessage;
 use number::rules::Rules;
 use number::rules::Running;
 use number::varlen::ReadNumber;
-use number::varlen::ReadSlice;
-use number::varlen::read_varlen_slice;
+use number::varlen::u28;
+use payload::ReadSlice;
+use payload::read_varlen_slice;
+use refusal::Refusal;
+use restricted::u4;
+use restricted::u7;
 
 // An event that was read, the bytes used, and the running status after it.
 pub struct EventAt {

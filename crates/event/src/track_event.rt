@@ -1,9 +1,9 @@
 // A track event: a delta and a kind.
-use message::meta::MetaMessage;
-use message::midi::MidiMessage;
-use number::restricted::u4;
-use number::restricted::u28;
+use meta::MetaMessage;
+use midi::MidiMessage;
 use number::rules::Range;
+use number::varlen::u28;
+use restricted::u4;
 
 pub enum TrackEventKind {
     Midi { channel: u4, message: MidiMessage },

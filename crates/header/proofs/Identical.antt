@@ -3,17 +3,14 @@ use mathlib.Core.Path.{_≡_, refl, ap}
 use mathlib.Core.List.{List}
 use Prim.Native.Nat.{ℕ}
 use lib.Dec.{eqb}
-use lib.Ieee.{Float}
 use lib.ListN.{getD}
 use Rattle.smf.specs.Answer.{pick, Answer}
 use Rattle.smf.specs.Header as smf
-use Rattle.smf.specs.Smpte.{Time}
 use Rattle.smf.proofs.Answer.{injective, answered}
-use Rattle.number.proofs.RefusalNumbers.{refusalOf, number-back}
+use Rattle.refusal.proofs.RefusalNumbers.{refusalOf, number-back}
 use Rattle.header.specs.Fps.{rateOf, triedFps}
 use Rattle.header.specs.Format.{formatOf, formatRead}
 use Rattle.header.specs.Timing.{timingOf, timingRead, timingEncoded}
-use Rattle.header.specs.Smpte.{smpteTimeOf, triedSmpteTime, encodedSmpteTime, askedSecond, askedPosition}
 use Rattle.header.specs.declared.fps.Fps.{Fps}
 use Rattle.header.specs.declared.fps.Fps.the-variants as fps
 use Rattle.header.specs.declared.fps.TriedFps.{TriedFps}
@@ -28,20 +25,11 @@ use Rattle.header.specs.declared.timing.ReadTiming.{ReadTiming}
 use Rattle.header.specs.declared.timing.ReadTiming.the-variants as readtiming
 use Rattle.header.specs.declared.timing.EncodedTiming.{EncodedTiming}
 use Rattle.header.specs.declared.timing.EncodedTiming.the-variants as encodedtiming
-use Rattle.header.specs.declared.smpte.SmpteTime.{SmpteTime}
-use Rattle.header.specs.declared.smpte.TriedSmpteTime.{TriedSmpteTime}
-use Rattle.header.specs.declared.smpte.TriedSmpteTime.the-variants as triedtime
-use Rattle.header.specs.declared.smpte.EncodedSmpteTime.{EncodedSmpteTime}
-use Rattle.header.specs.declared.smpte.EncodedSmpteTime.the-variants as encodedtime
-use Rattle.header.specs.declared.smpte.AskedSecond.{AskedSecond}
-use Rattle.header.specs.declared.smpte.AskedSecond.the-variants as askedsecond
-use Rattle.header.specs.declared.smpte.AskedPosition.{AskedPosition}
-use Rattle.header.specs.declared.smpte.AskedPosition.the-variants as askedposition
 
-backFps : ℕ → Fps
+pub backFps : ℕ → Fps
 backFps rate = pick (eqb rate 24) fps.Fps24 (pick (eqb rate 25) fps.Fps25 (pick (eqb rate 29) fps.Fps29 fps.Fps30))
 
-sameFps : (f : Fps) → backFps (rateOf f) ≡ f
+pub sameFps : (f : Fps) → backFps (rateOf f) ≡ f
 unfolding backFps
 sameFps fps.Fps24 = refl
 sameFps fps.Fps25 = refl
@@ -118,59 +106,3 @@ sameEncodedTiming (encodedtiming.Refused n) = ap encodedtiming.Refused (number-b
 
 pub timingEncoded-injective : {x y : EncodedTiming} → timingEncoded x ≡ timingEncoded y → x ≡ y
 timingEncoded-injective = injective timingEncoded backEncodedTiming sameEncodedTiming
-
-pub backSmpteTime : Time → SmpteTime
-backSmpteTime t =
-    record { hour = t .hour; minute = t .minute; second = t .second; frame = t .frame; subframe = t .subframe; fps = backFps (t .rate) }
-
-pub sameSmpteTime : (t : SmpteTime) → backSmpteTime (smpteTimeOf t) ≡ t
-unfolding backSmpteTime
-sameSmpteTime t = rw (sameFps (t .fps))
-
-pub smpteTimeOf-injective : {x y : SmpteTime} → smpteTimeOf x ≡ smpteTimeOf y → x ≡ y
-smpteTimeOf-injective = injective smpteTimeOf backSmpteTime sameSmpteTime
-
-backTriedSmpteTime : Answer Time → TriedSmpteTime
-backTriedSmpteTime = answered (λ t. triedtime.Made (backSmpteTime t)) (λ n. triedtime.Refused (refusalOf n))
-
-sameTriedSmpteTime : (r : TriedSmpteTime) → backTriedSmpteTime (triedSmpteTime r) ≡ r
-unfolding backTriedSmpteTime
-sameTriedSmpteTime (triedtime.Made t) = ap triedtime.Made (sameSmpteTime t)
-sameTriedSmpteTime (triedtime.Refused n) = ap triedtime.Refused (number-back n)
-
-pub triedSmpteTime-injective : {x y : TriedSmpteTime} → triedSmpteTime x ≡ triedSmpteTime y → x ≡ y
-triedSmpteTime-injective = injective triedSmpteTime backTriedSmpteTime sameTriedSmpteTime
-
-backEncodedSmpteTime : Answer (List ℕ) → EncodedSmpteTime
-backEncodedSmpteTime =
-    answered (λ b. encodedtime.Bytes (getD b 0 0) (getD b 1 0) (getD b 2 0) (getD b 3 0) (getD b 4 0)) (λ n. encodedtime.Refused (refusalOf n))
-
-sameEncodedSmpteTime : (r : EncodedSmpteTime) → backEncodedSmpteTime (encodedSmpteTime r) ≡ r
-unfolding backEncodedSmpteTime
-sameEncodedSmpteTime (encodedtime.Bytes first minute second frame subframe) = refl
-sameEncodedSmpteTime (encodedtime.Refused n) = ap encodedtime.Refused (number-back n)
-
-pub encodedSmpteTime-injective : {x y : EncodedSmpteTime} → encodedSmpteTime x ≡ encodedSmpteTime y → x ≡ y
-encodedSmpteTime-injective = injective encodedSmpteTime backEncodedSmpteTime sameEncodedSmpteTime
-
-backAskedSecond : Answer Float → AskedSecond
-backAskedSecond = answered (λ x. askedsecond.Is x) (λ n. askedsecond.Refused (refusalOf n))
-
-sameAskedSecond : (r : AskedSecond) → backAskedSecond (askedSecond r) ≡ r
-unfolding backAskedSecond
-sameAskedSecond (askedsecond.Is x) = refl
-sameAskedSecond (askedsecond.Refused n) = ap askedsecond.Refused (number-back n)
-
-pub askedSecond-injective : {x y : AskedSecond} → askedSecond x ≡ askedSecond y → x ≡ y
-askedSecond-injective = injective askedSecond backAskedSecond sameAskedSecond
-
-backAskedPosition : Answer ℕ → AskedPosition
-backAskedPosition = answered (λ x. askedposition.Is x) (λ n. askedposition.Refused (refusalOf n))
-
-sameAskedPosition : (r : AskedPosition) → backAskedPosition (askedPosition r) ≡ r
-unfolding backAskedPosition
-sameAskedPosition (askedposition.Is x) = refl
-sameAskedPosition (askedposition.Refused n) = ap askedposition.Refused (number-back n)
-
-pub askedPosition-injective : {x y : AskedPosition} → askedPosition x ≡ askedPosition y → x ≡ y
-askedPosition-injective = injective askedPosition backAskedPosition sameAskedPosition

@@ -1,7 +1,7 @@
 -- A rate as its number, and what `from_int` answers.
 use Prim.Native.Nat.{ℕ}
 use Rattle.smf.specs.Answer.{Answer, gives, refuses}
-use Rattle.number.specs.Refusal.{numberOf}
+use Rattle.refusal.specs.Refusal.{numberOf}
 use Rattle.header.specs.declared.fps.Fps.{Fps}
 use Rattle.header.specs.declared.fps.Fps.the-variants as fps
 use Rattle.header.specs.declared.fps.TriedFps.{TriedFps}

@@ -2,4 +2,3 @@
 pub mod Fps
 pub mod Format
 pub mod Timing
-pub mod Smpte

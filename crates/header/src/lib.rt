@@ -3,5 +3,4 @@ pub mod field;
 pub mod format;
 pub mod fps;
 pub mod signed;
-pub mod smpte;
 pub mod timing;

@@ -2,10 +2,10 @@
 use mathlib.Core.Path.{_≡_, refl, ap}
 use Rattle.smf.specs.Answer.{Answer}
 use Rattle.smf.proofs.Answer.{injective, answered}
-use Rattle.number.proofs.RefusalNumbers.{refusalOf, number-back}
+use Rattle.refusal.proofs.RefusalNumbers.{refusalOf, number-back}
 use Rattle.legal.specs.Legal.{verdictOf}
-use Rattle.legal.specs.declared.legal.Verdict.{Verdict}
-use Rattle.legal.specs.declared.legal.Verdict.the-variants.{Legal, Refused}
+use Rattle.legal.specs.declared.Verdict.{Verdict}
+use Rattle.legal.specs.declared.Verdict.the-variants.{Legal, Refused}
 
 back : Answer (Unit {0}) → Verdict
 back = answered (λ u. Legal) (λ n. Refused (refusalOf n))

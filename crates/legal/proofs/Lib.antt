@@ -1,4 +1,2 @@
-pub mod Channels
-pub mod Forms
 pub mod Settled
 pub mod Identical

@@ -12,12 +12,12 @@ use Rattle.smf.specs.Place.{Span}
 use Rattle.smf.specs.Kind.{Message, Meta, trackNumber, noTrackNumber, text, midiChannel, midiPort, endOfTrack, tempo, smpteOffset, timeSignature, keySignature, sequencerSpecific, unknown}
 use Rattle.smf.specs.Kind.{Kind, midi, sysEx, escape, meta}
 use Rattle.smf.specs.Event.{Event, event, kindFits, metaFits, kindLoad, metaLoad, inside, kindMisnamed, metaMisnamed, isNamed, noSpan, spanLength, mapEvent, bytesOf, legal, encodeEvent, eventBytes}
-use Rattle.legal.specs.Channel.{channelOf, channelFits}
-use Rattle.legal.specs.Form.{rangeOf, shapeOf, metaForm}
+use Rattle.shape.specs.Channel.{channelOf, channelFits}
+use Rattle.shape.specs.Form.{rangeOf, shapeOf, metaForm}
 use Rattle.legal.specs.Legal.{settled, loadAllowed, unknownAllowed, formAllowed, eventAllowed}
-use Rattle.legal.specs.declared.form.Form.{Form}
-use Rattle.legal.specs.declared.form.Form.the-variants.{AboveWidth, System, Typed, Unknown, Fixed}
-use Rattle.legal.proofs.Channels.{data-fit}
+use Rattle.shape.specs.declared.form.Form.{Form}
+use Rattle.shape.specs.declared.form.Form.the-variants.{AboveWidth, System, Typed, Unknown, Fixed}
+use Rattle.shape.proofs.Channels.{data-fit}
 
 -- the tests of legality in their order, over whatever they are made on
 abbrev judged : Bool → Bool → Bool → Bool → Answer (Unit {0})

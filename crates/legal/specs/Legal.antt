@@ -6,12 +6,12 @@ use lib.Dec.{ltb, leb}
 use Rattle.smf.specs.Answer.{pick, Answer, gives, refuses, andThen}
 use Rattle.smf.specs.Place.{Span}
 use Rattle.smf.specs.Event.{inside, isNamed}
-use Rattle.number.specs.Refusal.{numberOf}
-use Rattle.message.specs.Message.{spanOf}
-use Rattle.legal.specs.declared.form.Form.{Form}
-use Rattle.legal.specs.declared.form.Form.the-variants.{AboveWidth, System, Typed, Unknown, Fixed}
-use Rattle.legal.specs.declared.legal.Verdict.{Verdict}
-use Rattle.legal.specs.declared.legal.Verdict.the-variants.{Legal, Refused}
+use Rattle.refusal.specs.Refusal.{numberOf}
+use Rattle.meta.specs.Meta.{spanOf}
+use Rattle.shape.specs.declared.form.Form.{Form}
+use Rattle.shape.specs.declared.form.Form.the-variants.{AboveWidth, System, Typed, Unknown, Fixed}
+use Rattle.legal.specs.declared.Verdict.{Verdict}
+use Rattle.legal.specs.declared.Verdict.the-variants.{Legal, Refused}
 
 -- whether there is an answer, and by which number there is none
 abbrev pub settled : {A : Type 0} → Answer A → Answer (Unit {0})

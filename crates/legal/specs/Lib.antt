@@ -1,4 +1,2 @@
--- What the values and the answers of this crate say, in the paper's terms.
-pub mod Channel
-pub mod Form
+-- What the answers of this crate say, in the paper's terms.
 pub mod Legal

@@ -5,11 +5,11 @@ use crate::text::number;
 use crate::text::word;
 use event::track_event::TrackEventKind;
 use header::signed::to_byte;
-use header::smpte::SmpteTime;
-use message::meta::MetaMessage;
-use message::meta::OptionU16;
-use message::midi::MidiMessage;
+use meta::MetaMessage;
+use meta::OptionU16;
+use midi::MidiMessage;
 use number::rules::Range;
+use smpte::SmpteTime;
 
 // A payload, by its place in the input.
 fn load(range: Range) {

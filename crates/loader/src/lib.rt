@@ -1,6 +1,6 @@
 // The exported entries, which C and Rust link: numbers, byte slices and values lent for what is found.
 // Each answers 0 where it accepts, else the refusal's number in document 01's table. A refusal changes nothing that was lent but what its entry says.
-// One that refuses nothing answers its value itself. Those for numbers and payloads stand here, the others in modules.
+// One that refuses nothing answers its value itself. Those for numbers and payloads stand here, the others in crates of their own.
 ghost use mathlib.Core.Path.{_≡_};
 ghost use Prim.Native.Nat.{ℕ};
 ghost use lib.ListN.{length};
@@ -9,17 +9,12 @@ ghost use Rattle.smf.specs.Place.{NumberAt, Span, numberAt, payloadAt};
 ghost use Rattle.smf.specs.Write.{write, numberBytes, payloadBytes};
 ghost use Rattle.number.specs.Rules.{rulesOf};
 ghost use Rattle.loader.specs.Entry.{flagged, answered, leaves};
-use number::restricted::u28;
 use number::rules::Range;
 use number::rules::Rules;
 use number::varlen::ReadNumber;
-use number::varlen::ReadSlice;
 use number::varlen::Written;
-
-pub mod bends;
-pub mod events;
-pub mod fields;
-pub mod smpte;
+use number::varlen::u28;
+use payload::ReadSlice;
 
 // The rules that a flag sets: strict where it is not 0.
 pub fn rules(strict: u8) -> Rules
@@ -90,7 +85,7 @@ pub extern "C" fn apk_payload_read(
     ensures start { λ r. ⌜ now (start .exit) ≡ leaves (λ (n : Span). n .start) (payloadAt (flagged strict) (now (bytes .entry)) at) (now (start .entry)) ⌝ }
     ensures length { λ r. ⌜ now (length .exit) ≡ leaves (λ (n : Span). n .length) (payloadAt (flagged strict) (now (bytes .entry)) at) (now (length .entry)) ⌝ }
 {
-    match number::varlen::read_varlen_slice(bytes, at, rules(strict)) {
+    match payload::read_varlen_slice(bytes, at, rules(strict)) {
         ReadSlice::Refused(refusal) => refusal.number(),
         ReadSlice::Slice(found) => {
             *start = found.start;
@@ -114,7 +109,7 @@ pub extern "C" fn apk_payload_write(
     ensures buffer { λ r. ⌜ now (out .exit) ≡ write (payloadBytes (now (payload .entry)) start length) (now (out .entry)) at .buffer ⌝ }
     ensures next { λ r. ⌜ now (next .exit) ≡ leaves (λ (n : ℕ). n) (write (payloadBytes (now (payload .entry)) start length) (now (out .entry)) at .answer) (now (next .entry)) ⌝ }
 {
-    match number::varlen::write_varlen_slice(payload, Range { start, length }, out, at) {
+    match payload::write_varlen_slice(payload, Range { start, length }, out, at) {
         Written::Refused(refusal) => refusal.number(),
         Written::Next(end) => {
             *next = end;

@@ -1,3 +1,2 @@
 -- Laws on what the entries for lists answer.
 pub mod Sheets
-pub mod Identical

@@ -1,37 +1,23 @@
--- What is known of a sheet's list, and what follows for reading, measuring, writing and comparing it.
+-- What follows from a sheet's list for reading, measuring and writing it.
 use mathlib.Core.Path.{_≡_, ap, _∙_}
 use mathlib.Core.Bool.{true, false}
 use mathlib.Core.List.{List, map}
 use Prim.Native.Nat.{ℕ}
 use lib.ListN.{length, take}
 use lib.Seq.{take-append-seam}
-use Rattle.smf.specs.Answer.{Answer, gives, refuses}
+use Rattle.smf.specs.Answer.{gives, refuses}
 use Rattle.smf.specs.Place.{Span}
 use Rattle.smf.specs.Running.{isRunning}
 use Rattle.smf.specs.Event.{Event}
 use Rattle.smf.specs.Write.{Written, put}
-use Rattle.smf.specs.Lists.{ListAt, Held, holding, ListHeld, heldAs, unsized, sizeList, listLeft, writeList, SameList}
-use Rattle.number.specs.Refusal.{numberOf}
-use Rattle.number.specs.declared.refusal.Refusal.{Refusal}
+use Rattle.smf.specs.Lists.{ListAt, Held, holding, ListHeld, heldAs, unsized, sizeList, listLeft, writeList}
 use Rattle.event.specs.Event.{eventOf}
-use Rattle.track.specs.List.{capacity, heldOf}
+use Rattle.track.specs.List.{capacity}
 use Rattle.track.specs.Read.{stopOf, listRead}
 use Rattle.track.specs.declared.read.ReadList.{ReadList}
 use Rattle.sheet.specs.Sheet.{sheetOf, sheetList}
-use Rattle.sheet.specs.Taken.{taken, rowsAnswer, rowsTaken}
-use Rattle.sheet.specs.declared.from_rows.Rows.the-variants as rows
-use Rattle.sheet.specs.declared.from_rows.RowsList.{RowsList}
-use Rattle.sheet.proofs.Lifting.{taken-gives, taken-refuses}
-use Rattle.loader.specs.Events.{anyRules}
-use Rattle.loader_lists.specs.Lists.{stopNumber, sheetPut, sheetSize, sheetWritten, Told, SheetsTold}
-
--- what the rows were taken as
-module _ (cells : List ℕ) (count : ℕ) (r : RowsList) (e : rowsTaken r ≡ taken capacity (sheetList capacity cells count)) where
-  pub is-list : r .rows ≡ rows.Enough → sheetList capacity cells count ≡ gives (heldOf (r .list))
-  is-list p = taken-gives capacity (sheetList capacity cells count) (rowsTaken r) e (ap rowsAnswer p)
-
-  pub is-none : (n : Refusal) → r .rows ≡ rows.Refused n → sheetList capacity cells count ≡ refuses (numberOf n)
-  is-none n p = taken-refuses capacity (sheetList capacity cells count) (rowsTaken r) e (numberOf n) (ap rowsAnswer p)
+use Rattle.loader_events.specs.Events.{anyRules}
+use Rattle.loader_lists.specs.Lists.{stopNumber, sheetPut, sheetSize, sheetWritten}
 
 module _ (running : ℕ) (payload cells : List ℕ) (count : ℕ) where
   pub size-invalid : isRunning running ≡ false → unsized running 1 0 ≡ sheetSize running payload cells count
@@ -82,17 +68,3 @@ module _ (l : ListAt) (r : ReadList) (e : listRead r ≡ heldAs capacity l) wher
 
   pub read-put : (cells : List ℕ) (w : Written) → w ≡ put (sheetOf (take (r .list .count) (map eventOf (r .list .records)))) cells 0 → w ≡ sheetPut l cells
   read-put cells w p = p ∙ ap (λ (es : List (Event Span)). put (sheetOf es) cells 0) read-events
-
--- of two sheets
-module _ (r : ℕ) (s : List ℕ) (a : Answer Held) (t : List ℕ) (b : Answer Held) where
-  pub first-none : {n : ℕ} → a ≡ refuses n → r ≡ n → SheetsTold r s a t b
-  first-none {n} p q = rw p (by b) where
-    by : (b : Answer Held) → SheetsTold r s (refuses n) t b
-    by (gives h) = q
-    by (refuses m) = q
-
-  pub second-none : {n : ℕ} {h : Held} → a ≡ gives h → b ≡ refuses n → r ≡ n → SheetsTold r s a t b
-  second-none p f q = rw (p, f) q
-
-  pub both-lists : {h k : Held} → a ≡ gives h → b ≡ gives k → Told r (SameList s (h .records) (h .count) t (k .records) (k .count)) → SheetsTold r s a t b
-  both-lists p f told = rw (p, f) told

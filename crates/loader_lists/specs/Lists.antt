@@ -1,17 +1,14 @@
--- What reading, measuring, writing and comparing lists leave the caller with: a list is a sheet, rows of ten numbers.
-use mathlib.Core.Path.{_≡_}
-use mathlib.Core.Bool.{Bool}
+-- What reading, measuring and writing lists leave the caller with: a list is a sheet, rows of ten numbers.
 use mathlib.Core.List.{List}
 use Prim.Native.Nat.{ℕ}
 use Rattle.smf.specs.Answer.{pick, Answer, gives, refuses}
 use Rattle.smf.specs.Running.{isRunning}
 use Rattle.smf.specs.Write.{Written, put}
-use Rattle.smf.specs.Lists.{Stop, ended, full, stopped, ListAt, listAt, Held, ListAnswer, wrote, refusesAt, ListSize, unsized, sizeList, ListWritten, listLeft, writeList, SameList}
+use Rattle.smf.specs.Lists.{Stop, ended, full, stopped, ListAt, listAt, Held, ListAnswer, wrote, refusesAt, ListSize, unsized, sizeList, ListWritten, listLeft, writeList}
 use Rattle.track.specs.List.{capacity}
-use Rattle.same.specs.Same.{Tells}
 use Rattle.sheet.specs.Sheet.{sheetOf, sheetList}
 use Rattle.loader.specs.Entry.{flagged}
-use Rattle.loader.specs.Events.{anyRules}
+use Rattle.loader_events.specs.Events.{anyRules}
 
 -- Reading
 
@@ -71,20 +68,3 @@ lengthLeft (refusesAt n i) held = held
 abbrev pub indexLeft : ListAnswer → ℕ → ℕ
 indexLeft (wrote n) held = held
 indexLeft (refusesAt n i) held = i
-
--- Sameness
-
--- yes 1, no 0
-abbrev pub yes : Bool → ℕ
-yes told = pick told 1 0
-
--- a number tells whether a rule holds: 1 where it does, 0 where it does not
-abbrev pub Told : ℕ → Type 0 → Type 0
-Told r Rule = (told : Bool) × ((r ≡ yes told) × Tells told Rule)
-
--- of two sheets: document 01's rule, where both are lists; else the number of the first that is none
-abbrev pub SheetsTold : ℕ → List ℕ → Answer Held → List ℕ → Answer Held → Type 0
-SheetsTold r s (gives a) t (gives b) = Told r (SameList s (a .records) (a .count) t (b .records) (b .count))
-SheetsTold r s (gives a) t (refuses n) = r ≡ n
-SheetsTold r s (refuses m) t (gives b) = r ≡ m
-SheetsTold r s (refuses m) t (refuses n) = r ≡ m

@@ -7,9 +7,9 @@ use compose::length::ListRefused;
 use compose::length::list_length;
 use compose::write::WroteList;
 use compose::write::write_list;
-use loader::events::any_rules;
-use number::refusal::Refusal;
+use loader_events::any_rules;
 use number::rules::Running;
+use refusal::Refusal;
 use sheet::from_rows::Rows;
 use sheet::from_rows::rows_list;
 

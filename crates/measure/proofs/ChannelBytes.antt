@@ -11,8 +11,8 @@ use Rattle.smf.specs.Answer.{pick}
 use Rattle.smf.specs.Number.{encodeNumber}
 use Rattle.smf.specs.Wire.{encodeRaw, rawEvent, encodeRawEvent, runningAfter}
 use Rattle.smf.proofs.Answer.{by-test}
-use Rattle.legal.specs.Channel.{channelRaw}
-use Rattle.legal.specs.declared.channel.Channel.{Channel}
+use Rattle.shape.specs.Channel.{channelRaw}
+use Rattle.shape.specs.declared.channel.Channel.{Channel}
 use Rattle.measure.specs.Channel.{statusBytes, dataBytes}
 
 module _ (running : ℕ) (c : Channel) where

@@ -16,12 +16,12 @@ use Rattle.smf.specs.Kind.{Message, Meta, trackNumber, noTrackNumber, text, mid
 use Rattle.smf.specs.Kind.{Kind, midi, sysEx, escape, meta, rawMessage, rawMeta, rawOf}
 use Rattle.smf.specs.Event.{event, metaFits, messageFits, mapMeta, mapKind, mapEvent, bytesOf, encodeEvent, eventBytes}
 use Rattle.smf.proofs.Answer.{by-test, both}
-use Rattle.legal.specs.Channel.{channelOf, channelFits, channelRaw}
-use Rattle.legal.specs.Form.{rangeOf, shapeOf, metaForm}
+use Rattle.shape.specs.Channel.{channelOf, channelFits, channelRaw}
+use Rattle.shape.specs.Form.{rangeOf, shapeOf, metaForm}
 use Rattle.legal.specs.Legal.{formAllowed, eventAllowed}
-use Rattle.legal.specs.declared.form.Form.{Form}
-use Rattle.legal.specs.declared.form.Form.the-variants.{AboveWidth, System}
-use Rattle.legal.proofs.Channels.{data-fit, channel-raw}
+use Rattle.shape.specs.declared.form.Form.{Form}
+use Rattle.shape.specs.declared.form.Form.the-variants.{AboveWidth, System}
+use Rattle.shape.proofs.Channels.{data-fit, channel-raw}
 use Rattle.legal.proofs.Settled.{bytes-settled, midi-settled, sys-ex-settled, escape-settled, meta-settled}
 use Rattle.measure.specs.Form.{formBytes}
 use Rattle.measure.specs.Length.{Size, size, rawSize, eventSize}

@@ -15,11 +15,11 @@ use Rattle.smf.specs.Payload.{encodePayload}
 use Rattle.smf.specs.Event.{inside, isNamed, bytesOf}
 use Rattle.smf.proofs.Number.{encode-most}
 use Rattle.smf.proofs.Write.{payload-size}
-use Rattle.message.specs.Message.{spanOf}
+use Rattle.meta.specs.Meta.{spanOf}
 use Rattle.legal.specs.Legal.{loadAllowed, unknownAllowed, formAllowed, eventAllowed}
-use Rattle.legal.specs.declared.form.Own.{Own}
-use Rattle.legal.specs.declared.form.Form.{Form}
-use Rattle.legal.specs.declared.form.Form.the-variants.{AboveWidth, System, Typed, Unknown, Fixed}
+use Rattle.shape.specs.declared.form.Own.{Own}
+use Rattle.shape.specs.declared.form.Form.{Form}
+use Rattle.shape.specs.declared.form.Form.the-variants.{AboveWidth, System, Typed, Unknown, Fixed}
 use Rattle.measure.specs.Form.{ownList, ownBytes, formBytes, loadLength, formLength, Inside, Short}
 
 -- what was given past a test, was given because it holds

@@ -3,7 +3,7 @@ use mathlib.Core.Path.{_≡_, refl, ap}
 use Prim.Native.Nat.{ℕ}
 use Rattle.smf.specs.Answer.{Answer}
 use Rattle.smf.proofs.Answer.{injective, answered}
-use Rattle.number.proofs.RefusalNumbers.{refusalOf, number-back}
+use Rattle.refusal.proofs.RefusalNumbers.{refusalOf, number-back}
 use Rattle.measure.specs.Length.{Size, lengthSaid, formLengthSaid}
 use Rattle.measure.specs.declared.length.EventLength.{EventLength}
 use Rattle.measure.specs.declared.length.EventLength.the-variants as length

@@ -3,7 +3,7 @@ use mathlib.Core.List.{List, [], _∷_}
 use Prim.Native.Nat.{ℕ}
 use lib.Dec.{eqb}
 use Rattle.smf.specs.Answer.{pick}
-use Rattle.legal.specs.declared.channel.Channel.{Channel}
+use Rattle.shape.specs.declared.channel.Channel.{Channel}
 
 -- SMF: the status byte is left out where it is the running status
 abbrev pub statusBytes : ℕ → ℕ → List ℕ

@@ -6,10 +6,10 @@ use Rattle.smf.specs.Place.{Span}
 use Rattle.smf.specs.Number.{encodeNumber}
 use Rattle.smf.specs.Payload.{encodePayload}
 use Rattle.smf.specs.Event.{bytesOf}
-use Rattle.message.specs.Message.{spanOf}
-use Rattle.legal.specs.declared.form.Own.{Own}
-use Rattle.legal.specs.declared.form.Form.{Form}
-use Rattle.legal.specs.declared.form.Form.the-variants.{AboveWidth, System, Typed, Unknown, Fixed}
+use Rattle.meta.specs.Meta.{spanOf}
+use Rattle.shape.specs.declared.form.Own.{Own}
+use Rattle.shape.specs.declared.form.Form.{Form}
+use Rattle.shape.specs.declared.form.Form.the-variants.{AboveWidth, System, Typed, Unknown, Fixed}
 
 -- a payload of the message's own
 abbrev pub ownList : Own → List ℕ

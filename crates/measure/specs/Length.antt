@@ -7,7 +7,7 @@ use Rattle.smf.specs.Place.{Span}
 use Rattle.smf.specs.Wire.{Raw, rawEvent, encodeRawEvent, runningAfter}
 use Rattle.smf.specs.Kind.{rawOf}
 use Rattle.smf.specs.Event.{Event, mapKind, bytesOf, eventBytes}
-use Rattle.number.specs.Refusal.{numberOf}
+use Rattle.refusal.specs.Refusal.{numberOf}
 use Rattle.measure.specs.declared.length.EventLength.{EventLength}
 use Rattle.measure.specs.declared.length.EventLength.the-variants as event
 use Rattle.measure.specs.declared.size.FormLength.{FormLength}

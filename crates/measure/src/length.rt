@@ -3,25 +3,25 @@ ghost use mathlib.Core.Path.{_≡_};
 ghost use Rattle.smf.specs.Answer.{pick, gives, refuses, andThen};
 ghost use Rattle.smf.specs.Running.{isRunning};
 ghost use Rattle.number.specs.Rules.{rulesOf};
-ghost use Rattle.message.specs.Message.{messageOf};
+ghost use Rattle.midi.specs.Midi.{messageOf};
 ghost use Rattle.event.specs.Event.{eventOf};
-ghost use Rattle.legal.specs.Channel.{channelOf, channelFits, channelRaw};
+ghost use Rattle.shape.specs.Channel.{channelOf, channelFits, channelRaw};
 ghost use Rattle.measure.specs.Length.{size, lengthSaid, formLengthSaid, rawSize, eventSize};
 use crate::size::FormLength;
 use crate::size::channel_length;
 use crate::size::form_measure;
 use event::track_event::TrackEvent;
 use event::track_event::TrackEventKind;
-use legal::channel::channel_bytes;
-use legal::channel::fits;
-use legal::form::Form;
-use legal::form::meta_form;
-use message::midi::MidiMessage;
-use number::refusal::Refusal;
-use number::restricted::u4;
-use number::restricted::u28;
+use midi::MidiMessage;
 use number::rules::Rules;
 use number::rules::Running;
+use number::varlen::u28;
+use refusal::Refusal;
+use restricted::u4;
+use shape::channel::channel_bytes;
+use shape::channel::fits;
+use shape::form::Form;
+use shape::form::meta_form;
 
 // An event's length, and the running status after it.
 pub struct Size {

@@ -5,17 +5,17 @@ ghost use lib.ListN.{length};
 ghost use Rattle.smf.specs.Answer.{pick, gives, andThen};
 ghost use Rattle.smf.specs.Number.{encodeNumber};
 ghost use Rattle.smf.specs.Wire.{encodeRawEvent, rawEvent};
-ghost use Rattle.legal.specs.Channel.{channelRaw};
+ghost use Rattle.shape.specs.Channel.{channelRaw};
 ghost use Rattle.legal.specs.Legal.{eventAllowed};
 ghost use Rattle.measure.specs.Form.{formBytes, loadLength, formLength, Short};
 ghost use Rattle.measure.specs.Length.{formLengthSaid};
-use legal::channel::Channel;
-use legal::form::Form;
-use legal::legal::Verdict;
-use legal::legal::form_legality;
-use number::refusal::Refusal;
-use number::restricted::u28;
+use legal::Verdict;
+use legal::form_legality;
 use number::rules::Running;
+use number::varlen::u28;
+use refusal::Refusal;
+use shape::channel::Channel;
+use shape::form::Form;
 
 // The length of an event that is no channel message.
 pub enum FormLength {

@@ -1,5 +1,3 @@
-// Modules 1 and 2 of document 01: restricted numbers, variable-length numbers and payloads.
-pub mod refusal;
-pub mod restricted;
+// Modules 1 and 2 of document 01: variable-length numbers, and what readers and writers are given. The narrower numbers are in `restricted`, payloads in `payload`.
 pub mod rules;
 pub mod varlen;

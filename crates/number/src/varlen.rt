@@ -1,17 +1,54 @@
-// Variable-length numbers, and payloads: a number and that many bytes.
-// The Rust's slice that shrinks is a place by value; what it returns as a slice is a range of the bytes lent.
+// Variable-length numbers. The Rust's slice that shrinks is a place by value.
 ghost use mathlib.Core.Path.{_≡_};
-ghost use Prim.Native.Nat.{_+_, _-_, _≤_};
-ghost use lib.ListN.{length, take, drop};
+ghost use lib.ListN.{length};
 ghost use Rattle.smf.specs.Number.{encodeNumber};
-ghost use Rattle.smf.specs.Place.{numberAt, payloadAt};
-ghost use Rattle.smf.specs.Write.{over, write, numberBytes, payloadBytes};
+ghost use Rattle.smf.specs.Place.{numberAt};
+ghost use Rattle.smf.specs.Width.{lowBits, largest, tryWidth};
+ghost use Rattle.smf.specs.Write.{write, numberBytes};
 ghost use Rattle.number.specs.Rules.{rulesOf};
-ghost use Rattle.number.specs.Varlen.{numberRead, sliceRead, writeLeft};
-use crate::refusal::Refusal;
-use crate::restricted::u28;
-use crate::rules::Range;
+ghost use Rattle.number.specs.Varlen.{triedU28, numberRead, writeLeft};
 use crate::rules::Rules;
+use refusal::Refusal;
+
+// A tick count, a length: what a variable-length number holds.
+pub struct u28(pub u32);
+
+pub enum TriedU28 {
+    Made(u28),
+    Refused(Refusal),
+}
+
+impl u28 {
+    const MASK: u32 = 0xFFF_FFFF;
+
+    pub fn max_value() -> u28
+        ensures { λ r. ⌜ r .0 ≡ largest 28 ⌝ }
+    {
+        u28(Self::MASK)
+    }
+
+    pub fn new(raw: u32) -> u28
+        ensures { λ r. ⌜ r .0 ≡ lowBits 28 raw ⌝ }
+    {
+        u28(raw & Self::MASK)
+    }
+
+    pub fn try_from(raw: u32) -> TriedU28
+        ensures { λ r. ⌜ triedU28 r ≡ tryWidth 28 raw ⌝ }
+    {
+        if raw <= Self::MASK {
+            TriedU28::Made(u28(raw))
+        } else {
+            TriedU28::Refused(Refusal::AboveWidth)
+        }
+    }
+
+    pub fn as_int(self) -> u32
+        ensures { λ r. ⌜ r ≡ self .0 ⌝ }
+    {
+        self.0
+    }
+}
 
 // A number that was read at a place, and the place after it.
 pub struct NumberAt {
@@ -21,11 +58,6 @@ pub struct NumberAt {
 
 pub enum ReadNumber {
     Number(NumberAt),
-    Refused(Refusal),
-}
-
-pub enum ReadSlice {
-    Slice(Range),
     Refused(Refusal),
 }
 
@@ -119,79 +151,4 @@ impl u28 {
         }
         Written::Next(end)
     }
-}
-
-// How many bytes there are from a place on.
-fn bytes_from(raw: &[u8], at: usize) -> usize
-    ensures { λ r. ⌜ r ≡ length (now (raw .entry)) - at ⌝ }
-{
-    if raw.len() <= at {
-        return 0;
-    }
-    raw.len() - at
-}
-
-// The payload at a place, as a range of the bytes.
-pub fn read_varlen_slice(raw: &[u8], at: usize, rules: Rules) -> ReadSlice
-    ensures { λ r. ⌜ sliceRead r ≡ payloadAt (rulesOf rules) (now (raw .entry)) at ⌝ }
-{
-    match u28::read_u7(raw, at, rules) {
-        ReadNumber::Refused(refusal) => ReadSlice::Refused(refusal),
-        ReadNumber::Number(len) => {
-            let n = len.value.0 as usize;
-            let start = len.next;
-            let left = bytes_from(raw, start);
-            if n <= left {
-                return ReadSlice::Slice(Range { start, length: n });
-            }
-            if rules.strict {
-                return ReadSlice::Refused(Refusal::PayloadCutOff);
-            }
-            ReadSlice::Slice(Range {
-                start,
-                length: left,
-            })
-        }
-    }
-}
-
-// A part of some bytes, put at a place of a buffer that has room for it.
-fn copy_part(bytes: &[u8], start: usize, n: usize, out: &mut [u8], at: usize)
-    requires { ⌜ (start + n ≤ length (now bytes)) × (at + n ≤ length (now out)) ⌝ }
-    ensures { λ r. ⌜ now (out .exit) ≡ over (take n (drop start (now (bytes .entry)))) (now (out .entry)) at ⌝ }
-{
-    let mut i: usize = 0;
-    while i < n {
-        out[at + i] = bytes[start + i];
-        i += 1;
-    }
-}
-
-// The payload that a range of the bytes lent is, put at a place of a lent buffer.
-pub fn write_varlen_slice(bytes: &[u8], slice: Range, out: &mut [u8], at: usize) -> Written
-    ensures { λ r. ⌜ writeLeft r (now (out .exit)) ≡ write (payloadBytes (now (bytes .entry)) (slice .start) (slice .length)) (now (out .entry)) at ⌝ }
-{
-    let start = slice.start;
-    let n = slice.length;
-    if bytes.len() < n {
-        return Written::Refused(Refusal::PayloadOutside);
-    }
-    if bytes.len() - n < start {
-        return Written::Refused(Refusal::PayloadOutside);
-    }
-    if 0xFFF_FFFF < n {
-        return Written::Refused(Refusal::PayloadTooLong);
-    }
-    let len = u28(n as u32);
-    let size = len.varlen_length() + n;
-    if out.len() < size {
-        return Written::Refused(Refusal::NoRoom);
-    }
-    if out.len() - size < at {
-        return Written::Refused(Refusal::NoRoom);
-    }
-    let end = at + size;
-    len.write_varlen(out, at);
-    copy_part(bytes, start, n, out, end - n);
-    Written::Next(end)
 }

@@ -1,3 +1,2 @@
--- What the values of this crate say, in the paper's terms.
+-- What the rows of this crate say, in the paper's terms.
 pub mod Rows
-pub mod RowEvent

@@ -6,7 +6,7 @@ use Rattle.smf.specs.Place.{Span}
 use Rattle.smf.specs.Signed.{byteOfSigned}
 use Rattle.smf.specs.Kind as kind
 use Rattle.smf.specs.Event.{Event}
-use Rattle.rows.specs.declared.row.Row.{Row}
+use Rattle.rows.specs.declared.Row.{Row}
 
 -- a row's numbers behind its delta: the kind's number, six fields, the payload's start and length
 abbrev pub rowNumbers : Row → List ℕ

@@ -7,7 +7,7 @@ use lib.Dec.{eqb}
 use borrow.Author.Tests.{eqb-true, eqb-false}
 use Rattle.smf.specs.Place.{Span}
 use Rattle.smf.specs.Event.{Event, event, mapKind, mapEvent, bytesOf, Same}
-use Rattle.rows.specs.declared.row.Row.{Row}
+use Rattle.rows.specs.declared.Row.{Row}
 use Rattle.same.specs.Same.{Tells, rowFields}
 
 -- by the test's value

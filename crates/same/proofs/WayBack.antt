@@ -19,15 +19,15 @@ use Rattle.smf.specs.Smpte.{time}
 use Rattle.smf.specs.Kind as kind
 use Rattle.smf.specs.Event.{mapMeta, mapKind, metaLoad, kindLoad, noSpan, bytesOf}
 use Rattle.smf.proofs.Signed.{signed-back}
-use Rattle.message.specs.declared.midi.MidiMessage.the-variants as midi
-use Rattle.message.specs.declared.meta.OptionU16.the-variants as option
-use Rattle.message.specs.declared.meta.MetaMessage.the-variants as meta
+use Rattle.midi.specs.declared.MidiMessage.the-variants as midi
+use Rattle.meta.specs.declared.OptionU16.the-variants as option
+use Rattle.meta.specs.declared.MetaMessage.the-variants as meta
 use Rattle.event.specs.Event.{kindOf}
 use Rattle.event.specs.declared.track_event.TrackEventKind.{TrackEventKind}
 use Rattle.event.specs.declared.track_event.TrackEventKind.the-variants as track
 use Rattle.event.proofs.track_event.TrackEventKind.{the-type}
 use Rattle.rows.specs.Rows.{rowNumbers, kindRow}
-use Rattle.rows.specs.declared.row.Row.{Row}
+use Rattle.rows.specs.declared.Row.{Row}
 use Rattle.same.specs.Same.{Tells, span, rowFields, rowSpan}
 use Rattle.same.proofs.Telling.{tells-too}
 

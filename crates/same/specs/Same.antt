@@ -3,7 +3,7 @@ use mathlib.Core.Bool.{Bool, true, false}
 use mathlib.Core.List.{List, [], _∷_}
 use Prim.Native.Nat.{ℕ}
 use Rattle.smf.specs.Place.{Span}
-use Rattle.rows.specs.declared.row.Row.{Row}
+use Rattle.rows.specs.declared.Row.{Row}
 
 -- document 01, "Lists": the same by the rule, and different otherwise; true where the rule holds, false where it does not
 abbrev pub Tells : Bool → Type 0 → Type 0

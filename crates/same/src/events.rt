@@ -8,8 +8,8 @@ ghost use Rattle.event.specs.Event.{kindOf, eventOf};
 ghost use Rattle.same.specs.Same.{Tells, span, rowFields, rowSpan};
 use event::track_event::TrackEvent;
 use event::track_event::TrackEventKind;
-use rows::row::Row;
-use rows::row::kind_row;
+use rows::Row;
+use rows::kind_row;
 
 // How many bytes of a range there are.
 fn held(bytes: &[u8], start: usize, size: usize) -> usize

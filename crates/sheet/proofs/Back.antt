@@ -7,7 +7,7 @@ use lib.Seq.{take-at, drop-at}
 use Rattle.smf.specs.Place.{Span}
 use Rattle.smf.specs.Event.{Event}
 use Rattle.rows.specs.Rows.{eventRow}
-use Rattle.rows.specs.RowEvent.{rowEvent}
+use Rattle.rows_back.specs.RowEvent.{rowEvent}
 use Rattle.sheet.specs.Sheet.{width, sheetOf, sheetEvents}
 use Rattle.sheet.specs.Kept.{AllKept, Kept}
 use Rattle.sheet.proofs.Laying.{row-length}

@@ -2,7 +2,7 @@
 use mathlib.Core.Path.{_≡_, refl, ap, ap₂}
 use Rattle.smf.specs.Answer.{Answer, gives, refuses}
 use Rattle.smf.proofs.Answer.{injective}
-use Rattle.number.proofs.RefusalNumbers.{refusalOf, number-back}
+use Rattle.refusal.proofs.RefusalNumbers.{refusalOf, number-back}
 use Rattle.track.specs.declared.list.EventList.{EventList}
 use Rattle.track.proofs.Identical.{heldOf-injective}
 use Rattle.sheet.specs.Taken.{Taken, rowsAnswer, rowsTaken}

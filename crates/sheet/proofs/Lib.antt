@@ -4,3 +4,4 @@ pub mod Laying
 pub mod Lifting
 pub mod Back
 pub mod Identical
+pub mod Rows

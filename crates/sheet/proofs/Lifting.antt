@@ -14,7 +14,7 @@ use Rattle.smf.specs.Lists.{filler, Held, holding}
 use Rattle.event.specs.Event.{eventOf}
 use Rattle.event.specs.declared.track_event.TrackEvent.{TrackEvent}
 use Rattle.track.proofs.Held.{map-set}
-use Rattle.rows.specs.RowEvent.{rowEvent}
+use Rattle.rows_back.specs.RowEvent.{rowEvent}
 use Rattle.sheet.specs.Sheet.{width, sheetEvents, sheetList}
 use Rattle.sheet.specs.Taken.{Taken, taken}
 

@@ -6,10 +6,10 @@ use lib.ListN.{length}
 use Rattle.smf.specs.Place.{Span}
 use Rattle.smf.specs.Event.{Event}
 use Rattle.rows.specs.Rows.{eventRow}
-use Rattle.rows.specs.RowEvent.{rowEvent}
+use Rattle.rows_back.specs.RowEvent.{rowEvent}
 use Rattle.sheet.specs.Sheet.{sheetOf, sheetEvents}
 
--- each event comes back from its row; `Rattle.rows.proofs.Kept` shows it of every event of the code
+-- each event comes back from its row; `Rattle.rows_back.proofs.Kept` shows it of every event of the code
 abbrev pub AllKept : List (Event Span) → Type 0
 AllKept [] = Unit {0}
 AllKept (e ∷ es) = (rowEvent (eventRow e) ≡ e) × AllKept es

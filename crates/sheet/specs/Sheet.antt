@@ -8,7 +8,7 @@ use Rattle.smf.specs.Place.{Span}
 use Rattle.smf.specs.Event.{Event}
 use Rattle.smf.specs.Lists.{Held, holding}
 use Rattle.rows.specs.Rows.{eventRow}
-use Rattle.rows.specs.RowEvent.{rowEvent}
+use Rattle.rows_back.specs.RowEvent.{rowEvent}
 
 -- how many cells a row has
 abbrev pub width : ℕ

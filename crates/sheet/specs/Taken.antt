@@ -3,7 +3,7 @@ use mathlib.Core.List.{[]}
 use Prim.Native.Nat.{ℕ}
 use Rattle.smf.specs.Answer.{Answer, gives, refuses}
 use Rattle.smf.specs.Lists.{Held, holding}
-use Rattle.number.specs.Refusal.{numberOf}
+use Rattle.refusal.specs.Refusal.{numberOf}
 use Rattle.track.specs.List.{heldOf}
 use Rattle.sheet.specs.declared.from_rows.Rows.{Rows}
 use Rattle.sheet.specs.declared.from_rows.Rows.the-variants as rows

@@ -4,13 +4,13 @@ ghost use Prim.Native.Nat.{_+_, _*_, _≤_};
 ghost use lib.ListN.{length, take, drop};
 ghost use Rattle.smf.specs.Answer.{refuses};
 ghost use Rattle.smf.specs.Lists.{holding};
-ghost use Rattle.number.specs.Refusal.{numberOf};
+ghost use Rattle.refusal.specs.Refusal.{numberOf};
 ghost use Rattle.track.specs.List.{capacity, heldOf};
 ghost use Rattle.sheet.specs.Sheet.{width, sheetEvents, sheetList};
 ghost use Rattle.sheet.specs.Taken.{taken, rowsTaken};
 use crate::to_rows::WIDTH;
-use number::refusal::Refusal;
-use rows::back::row_event;
+use refusal::Refusal;
+use rows_back::row_event;
 use track::list::CAPACITY;
 use track::list::EventList;
 

@@ -8,9 +8,9 @@ ghost use Rattle.number.specs.Varlen.{writeLeft};
 ghost use Rattle.event.specs.Event.{eventOf};
 ghost use Rattle.track.specs.List.{capacity};
 ghost use Rattle.sheet.specs.Sheet.{width, sheetOf};
-use number::refusal::Refusal;
 use number::varlen::Written;
-use rows::row::event_row;
+use refusal::Refusal;
+use rows::event_row;
 use track::list::CAPACITY;
 use track::list::EventList;
 

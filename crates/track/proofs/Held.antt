@@ -7,7 +7,7 @@ use Rattle.smf.specs.Lists.{filler, Held, holding}
 use Rattle.event.specs.Event.{eventOf}
 use Rattle.event.specs.declared.track_event.TrackEvent.{TrackEvent}
 use Rattle.event.specs.declared.track_event.TrackEventKind.the-variants as track
-use Rattle.message.specs.declared.midi.MidiMessage.the-variants as midi
+use Rattle.midi.specs.declared.MidiMessage.the-variants as midi
 use Rattle.track.specs.List.{capacity}
 
 -- what stands past the end of an array

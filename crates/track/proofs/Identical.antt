@@ -3,7 +3,7 @@ use mathlib.Core.Path.{_≡_, refl, sym, ap, _∙_}
 use mathlib.Core.List.{List, [], _∷_, map}
 use Rattle.smf.specs.Lists as smf
 use Rattle.smf.proofs.Answer.{injective}
-use Rattle.number.proofs.RefusalNumbers.{refusalOf, number-back}
+use Rattle.refusal.proofs.RefusalNumbers.{refusalOf, number-back}
 use Rattle.event.specs.Event.{eventOf}
 use Rattle.event.specs.declared.track_event.TrackEvent.{TrackEvent}
 use Rattle.event.proofs.Identical.{backEvent, sameEvent}

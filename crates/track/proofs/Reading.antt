@@ -15,7 +15,7 @@ use Rattle.smf.specs.Event as smf
 use Rattle.smf.specs.Lists.{Stop, ended, full, stopped, readMore, ListAt, listPlaced, listAt, filler, Held, holding, ListHeld, heldAs}
 use Rattle.smf.proofs.Place.{site-begun}
 use Rattle.smf.proofs.ListPlaces.{stopsThere, inFront, list-begun, list-invalid, more-end, more-full, more-refused, more-step, more-next}
-use Rattle.number.specs.Refusal.{numberOf}
+use Rattle.refusal.specs.Refusal.{numberOf}
 use Rattle.event.specs.Event.{eventOf, eventRead}
 use Rattle.event.specs.declared.track_event.TrackEvent.{TrackEvent}
 use Rattle.event.specs.declared.read.ReadEvent.{ReadEvent}

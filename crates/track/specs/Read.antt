@@ -2,7 +2,7 @@
 use mathlib.Core.List.{[]}
 use Prim.Native.Nat.{ℕ}
 use Rattle.smf.specs.Lists as smf
-use Rattle.number.specs.Refusal.{numberOf}
+use Rattle.refusal.specs.Refusal.{numberOf}
 use Rattle.track.specs.declared.read.Stop.{Stop}
 use Rattle.track.specs.declared.read.Stop.the-variants as stop
 use Rattle.track.specs.declared.read.ReadList.{ReadList}

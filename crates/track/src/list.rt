@@ -6,8 +6,8 @@ ghost use Rattle.event.specs.Event.{eventOf};
 ghost use Rattle.track.specs.List.{capacity, heldOf};
 use event::track_event::TrackEvent;
 use event::track_event::TrackEventKind;
-use message::meta::MetaMessage;
-use number::restricted::u28;
+use meta::MetaMessage;
+use number::varlen::u28;
 
 // How many events a list holds.
 pub const CAPACITY: usize = 128;

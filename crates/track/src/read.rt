@@ -8,9 +8,9 @@ use crate::list::CAPACITY;
 use crate::list::EventList;
 use event::read::ReadEvent;
 use event::track_event::TrackEvent;
-use number::refusal::Refusal;
 use number::rules::Rules;
 use number::rules::Running;
+use refusal::Refusal;
 
 // Why reading stopped.
 pub enum Stop {

@@ -10,20 +10,20 @@ use crate::cells::wide;
 use crate::line::CELLS;
 use loader::apk_number_read;
 use loader::apk_payload_read;
-use loader::events::apk_event_read;
-use loader::fields::apk_format_encode;
-use loader::fields::apk_format_read;
-use loader::fields::apk_timing_encode;
-use loader::fields::apk_timing_read;
-use loader::smpte::apk_fps_as_code;
-use loader::smpte::apk_fps_from_code;
-use loader::smpte::apk_fps_from_int;
-use loader::smpte::apk_smpte_encode;
-use loader::smpte::apk_smpte_new;
-use loader::smpte::apk_smpte_position;
-use loader::smpte::apk_smpte_read;
-use loader_lists::agree::apk_event_same;
+use loader_events::apk_event_read;
+use loader_header::apk_format_encode;
+use loader_header::apk_format_read;
+use loader_header::apk_timing_encode;
+use loader_header::apk_timing_read;
 use loader_lists::read::apk_list_read;
+use loader_same::apk_event_same;
+use loader_smpte::apk_fps_as_code;
+use loader_smpte::apk_fps_from_code;
+use loader_smpte::apk_fps_from_int;
+use loader_smpte::apk_smpte_encode;
+use loader_smpte::apk_smpte_new;
+use loader_smpte::apk_smpte_position;
+use loader_smpte::apk_smpte_read;
 
 // Strict, place.
 fn number_read(given: &[u64], bytes: &[u8], found: &mut [u64; CELLS]) -> usize {

@@ -7,7 +7,7 @@ use crate::text::show;
 use crate::text::word;
 use event::read::ReadEvent;
 use event::track_event::TrackEvent;
-use loader::fields::apk_timing_read;
+use loader_header::apk_timing_read;
 use number::rules::Rules;
 use number::rules::Running;
 

@@ -10,8 +10,8 @@ use crate::line::CELLS;
 use loader::apk_number_length;
 use loader::apk_number_write;
 use loader::apk_payload_write;
-use loader::events::apk_event_length;
-use loader::events::apk_event_write;
+use loader_events::apk_event_length;
+use loader_events::apk_event_write;
 use loader_lists::write::apk_list_length;
 use loader_lists::write::apk_list_write;
 

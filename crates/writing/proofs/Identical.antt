@@ -4,7 +4,7 @@ use mathlib.Core.List.{List}
 use Prim.Native.Nat.{ℕ}
 use Rattle.smf.specs.Answer.{Answer, gives, refuses}
 use Rattle.smf.specs.Event.{EventWritten}
-use Rattle.number.proofs.RefusalNumbers.{refusalOf, number-back}
+use Rattle.refusal.proofs.RefusalNumbers.{refusalOf, number-back}
 use Rattle.writing.specs.Put.{EventPut, past, putLeft}
 use Rattle.writing.specs.Write.{wroteEvent}
 use Rattle.writing.specs.declared.put.Past.{Past}

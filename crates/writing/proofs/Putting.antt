@@ -17,18 +17,18 @@ use Rattle.smf.specs.Event.{event, mapKind, mapMeta, bytesOf, eventBytes, runni
 use Rattle.smf.proofs.Answer.{by-test, pick-test, both}
 use Rattle.smf.proofs.Number.{encode-some}
 use Rattle.smf.proofs.Write.{put-full}
-use Rattle.legal.specs.Channel.{channelOf, channelFits, channelRaw}
-use Rattle.legal.specs.Form.{rangeOf, metaForm}
+use Rattle.shape.specs.Channel.{channelOf, channelFits, channelRaw}
+use Rattle.shape.specs.Form.{rangeOf, metaForm}
 use Rattle.legal.specs.Legal.{eventAllowed}
-use Rattle.legal.specs.declared.channel.Channel.{Channel}
-use Rattle.legal.specs.declared.form.Form.{Form}
-use Rattle.legal.specs.declared.form.Form.the-variants.{System}
+use Rattle.shape.specs.declared.channel.Channel.{Channel}
+use Rattle.shape.specs.declared.form.Form.{Form}
+use Rattle.shape.specs.declared.form.Form.the-variants.{System}
 use Rattle.measure.specs.Form.{formBytes}
 use Rattle.measure.specs.Length.{formLengthSaid}
 use Rattle.measure.specs.declared.size.FormLength.{FormLength}
 use Rattle.measure.specs.declared.size.FormLength.the-variants as long
-use Rattle.number.specs.Refusal.{numberOf}
-use Rattle.number.specs.declared.refusal.Refusal.{Refusal}
+use Rattle.refusal.specs.Refusal.{numberOf}
+use Rattle.refusal.specs.declared.Refusal.{Refusal}
 use Rattle.writing.specs.Store.{Stored}
 use Rattle.writing.specs.Put.{Place, place, placed, placeAfter, EventPut, putLeft, putting, putEvent}
 use Rattle.measure.proofs.ChannelBytes.{channel-after}

@@ -3,7 +3,7 @@ use mathlib.Core.List.{List}
 use Prim.Native.Nat.{ℕ}
 use Rattle.smf.specs.Answer.{gives, refuses}
 use Rattle.smf.specs.Event.{EventWritten}
-use Rattle.number.specs.Refusal.{numberOf}
+use Rattle.refusal.specs.Refusal.{numberOf}
 use Rattle.writing.specs.declared.write.WroteEvent.{WroteEvent}
 use Rattle.writing.specs.declared.write.WroteEvent.the-variants.{Next, Refused}
 

@@ -8,9 +8,9 @@ ghost use Rattle.smf.specs.Number.{encodeNumber};
 ghost use Rattle.smf.specs.Wire.{rawEvent, encodeRawEvent, runningAfter};
 ghost use Rattle.smf.specs.Write.{write};
 ghost use Rattle.number.specs.Rules.{rulesOf};
-ghost use Rattle.message.specs.Message.{messageOf};
+ghost use Rattle.midi.specs.Midi.{messageOf};
 ghost use Rattle.event.specs.Event.{eventOf};
-ghost use Rattle.legal.specs.Channel.{channelOf, channelFits, channelRaw};
+ghost use Rattle.shape.specs.Channel.{channelOf, channelFits, channelRaw};
 ghost use Rattle.legal.specs.Legal.{eventAllowed};
 ghost use Rattle.measure.specs.Form.{formBytes};
 ghost use Rattle.writing.specs.Put.{place, placed, past, putLeft, putting, putEvent};
@@ -19,18 +19,18 @@ use crate::store::put_delta;
 use crate::store::put_form;
 use event::track_event::TrackEvent;
 use event::track_event::TrackEventKind;
-use legal::channel::channel_bytes;
-use legal::channel::fits;
-use legal::form::Form;
-use legal::form::meta_form;
 use measure::size::FormLength;
 use measure::size::channel_length;
 use measure::size::form_measure;
-use message::midi::MidiMessage;
-use number::restricted::u4;
-use number::restricted::u28;
+use midi::MidiMessage;
 use number::rules::Rules;
 use number::rules::Running;
+use number::varlen::u28;
+use restricted::u4;
+use shape::channel::channel_bytes;
+use shape::channel::fits;
+use shape::form::Form;
+use shape::form::meta_form;
 
 // The place after an event, and the running status there.
 pub struct Past {

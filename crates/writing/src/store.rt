@@ -9,19 +9,19 @@ ghost use Rattle.smf.specs.Payload.{encodePayload};
 ghost use Rattle.smf.specs.Write.{over};
 ghost use Rattle.smf.specs.Wire.{encodeRaw};
 ghost use Rattle.smf.specs.Event.{bytesOf};
-ghost use Rattle.message.specs.Message.{spanOf};
-ghost use Rattle.legal.specs.Channel.{channelRaw};
+ghost use Rattle.meta.specs.Meta.{spanOf};
+ghost use Rattle.shape.specs.Channel.{channelRaw};
 ghost use Rattle.legal.specs.Legal.{formAllowed};
 ghost use Rattle.measure.specs.Channel.{statusBytes, dataBytes};
 ghost use Rattle.measure.specs.Form.{ownBytes, formBytes, loadLength, Inside};
 ghost use Rattle.writing.specs.Store.{Stored};
-use legal::channel::Channel;
-use legal::form::Form;
-use legal::form::Own;
-use number::restricted::u28;
 use number::rules::Range;
 use number::rules::Running;
-use number::varlen::write_varlen_slice;
+use number::varlen::u28;
+use payload::write_varlen_slice;
+use shape::channel::Channel;
+use shape::form::Form;
+use shape::form::Own;
 
 // Most deltas are one byte.
 pub fn put_delta(delta: u28, out: &mut [u8], at: usize) -> usize

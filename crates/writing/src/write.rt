@@ -7,11 +7,11 @@ ghost use Rattle.writing.specs.Write.{wroteEvent};
 use crate::put::Past;
 use crate::put::put_event;
 use event::track_event::TrackEvent;
-use legal::legal::Verdict;
-use legal::legal::legality;
-use number::refusal::Refusal;
+use legal::Verdict;
+use legal::legality;
 use number::rules::Rules;
 use number::rules::Running;
+use refusal::Refusal;
 
 // A refused event leaves every byte and the running status as they came.
 pub enum WroteEvent {

@@ -5,7 +5,7 @@ use Prim.Native.Nat.{ℕ}
 use native.Mathlib.Omega.{arith}
 use borrow.Author.Needs.{needs}
 use Rattle.smf.specs.Lists.{wrote, sizeList}
-use Rattle.number.specs.Refusal.{numberOf}
+use Rattle.refusal.specs.Refusal.{numberOf}
 use Rattle.number.specs.Rules.{rulesOf}
 use Rattle.event.specs.Event.{eventOf}
 use Rattle.track.specs.List.{capacity}

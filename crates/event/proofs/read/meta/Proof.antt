@@ -4,7 +4,7 @@ use native.Mathlib.Omega.{arith}
 use denote.Ref.{now}
 use Rattle.smf.proofs.Answer.{said-of, said-refused}
 use Rattle.smf.proofs.Reading.{Answers, meta-answers}
-use Rattle.message.specs.Message.{metaRead}
+use Rattle.meta.specs.Meta.{metaRead}
 use Rattle.number.specs.Rules.{rulesOf}
 use borrow.Author.Needs.{needs}
 use Rattle.event.proofs.read.meta.Statement.{statement}

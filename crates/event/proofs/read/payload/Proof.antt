@@ -5,8 +5,8 @@ use denote.Ref.{now}
 use Rattle.smf.specs.Answer.{gives}
 use Rattle.smf.specs.Place.{payloadAt}
 use Rattle.smf.proofs.Reading.{payload-refused, payload-fits, payload-inside, payload-sysEx, payload-escape}
-use Rattle.number.specs.Varlen.{sliceRead}
-use Rattle.message.specs.Message.{spanOf}
+use Rattle.payload.specs.Payload.{sliceRead}
+use Rattle.meta.specs.Meta.{spanOf}
 use Rattle.number.specs.Rules.{rulesOf}
 use borrow.Author.Needs.{needs}
 use Rattle.event.proofs.read.payload.Statement.{statement}

@@ -6,7 +6,8 @@ use Rattle.smf.specs.Answer.{Rules}
 use Rattle.smf.specs.Lists.{sizeList}
 use Rattle.event.specs.Event.{eventOf}
 use Rattle.track.specs.List.{capacity}
-use Rattle.loader_lists.proofs.Sheets.{is-list, is-none, size-invalid, size-none, size-list}
+use Rattle.sheet.proofs.Rows.{is-list, is-none}
+use Rattle.loader_lists.proofs.Sheets.{size-invalid, size-none, size-list}
 use borrow.Author.Needs.{needs}
 use Rattle.loader_lists.proofs.write.sheet_length.Statement.{statement}
 use Rattle.loader_lists.proofs.write.sheet_length.Tie as tie

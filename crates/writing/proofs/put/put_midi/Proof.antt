@@ -7,7 +7,7 @@ use lib.ListN.{length}
 use borrow.Author.Needs.{needs}
 use borrow.Author.Tests.{not-true, not-false}
 use Rattle.smf.specs.Wire.{rawEvent, encodeRawEvent}
-use Rattle.legal.specs.Channel.{channelFits, channelRaw}
+use Rattle.shape.specs.Channel.{channelFits, channelRaw}
 use Rattle.writing.proofs.Putting.{midi-left, midi-full, delta-below, delta-room, channel-room, midi-put}
 use Rattle.writing.proofs.put.put_midi.Statement.{statement}
 use Rattle.writing.proofs.put.put_midi.Tie as tie

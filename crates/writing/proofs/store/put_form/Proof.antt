@@ -5,7 +5,7 @@ use lib.ListN.{length}
 use borrow.Author.Needs.{needs}
 use Rattle.smf.specs.Answer.{gives}
 use Rattle.legal.specs.Legal.{formAllowed}
-use Rattle.legal.specs.declared.form.Form.{Form}
+use Rattle.shape.specs.declared.form.Form.{Form}
 use Rattle.measure.specs.Form.{formBytes, formLength}
 use Rattle.measure.proofs.FormBytes.{load-inside, unknown-load, own-inside, form-length}
 use Rattle.writing.proofs.Storing.{over-none}

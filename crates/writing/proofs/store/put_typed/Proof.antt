@@ -6,7 +6,7 @@ use borrow.Author.Needs.{needs}
 use lib.ListN.{length, length-set}
 use Rattle.smf.specs.Payload.{encodePayload}
 use Rattle.smf.specs.Event.{bytesOf}
-use Rattle.message.specs.Message.{spanOf}
+use Rattle.meta.specs.Meta.{spanOf}
 use Rattle.writing.proofs.Storing.{over-cons}
 use Rattle.writing.proofs.store.put_typed.Statement.{statement}
 use Rattle.writing.proofs.store.put_typed.Tie as tie

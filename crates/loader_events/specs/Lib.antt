@@ -1,0 +1,2 @@
+-- What the entries for events answer, in plain numbers.
+pub mod Events

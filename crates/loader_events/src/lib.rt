@@ -1,0 +1,127 @@
+// The entries for one event, which is a row of ten numbers.
+ghost use mathlib.Core.Path.{_≡_};
+ghost use Prim.Native.Nat.{ℕ};
+ghost use Rattle.smf.specs.Event.{eventAt};
+ghost use Rattle.number.specs.Rules.{rulesOf};
+ghost use Rattle.measure.specs.Length.{Size};
+ghost use Rattle.loader.specs.Entry.{flagged, answered, leaves};
+ghost use Rattle.loader_events.specs.Events.{readAnswered, readRow, readUsed, readRunning, anyRules, rowSize, rowWritten};
+use event::read::ReadEvent;
+use event::track_event::TrackEvent;
+use loader::rules;
+use measure::length::EventLength;
+use measure::length::event_length;
+use number::rules::Rules;
+use number::rules::Running;
+use rows::event_row;
+use rows_back::row_event;
+use writing::write::WroteEvent;
+use writing::write::write_event;
+
+// The event at a place, from a running status: its row, the bytes used and the running status after it.
+// A refusal leaves the row as it came, uses no byte, and says the running status that it leaves.
+#[no_mangle]
+pub extern "C" fn apk_event_read(
+    bytes: &[u8],
+    at: usize,
+    running: u8,
+    strict: u8,
+    row: &mut [u64; 10],
+    used: &mut usize,
+    after: &mut u8,
+) -> u8
+    ensures answer { λ r. ⌜ r ≡ readAnswered (eventAt (flagged strict) running (now (bytes .entry)) at) ⌝ }
+    ensures row { λ r. ⌜ now (row .exit) ≡ readRow (eventAt (flagged strict) running (now (bytes .entry)) at) (now (row .entry)) ⌝ }
+    ensures used { λ r. ⌜ now (used .exit) ≡ readUsed (eventAt (flagged strict) running (now (bytes .entry)) at) ⌝ }
+    ensures after { λ r. ⌜ now (after .exit) ≡ readRunning (eventAt (flagged strict) running (now (bytes .entry)) at) ⌝ }
+{
+    match TrackEvent::read(bytes, at, Running { status: running }, rules(strict)) {
+        ReadEvent::Refused(n) => {
+            let refusal = n.refusal;
+            *used = 0;
+            *after = n.running.status;
+            refusal.number()
+        }
+        ReadEvent::Event(e) => {
+            let event = e.event;
+            let kind = event.kind;
+            *row = event_row(event.delta.0, kind);
+            *used = e.used;
+            *after = e.running.status;
+            0
+        }
+    }
+}
+
+// The rules that writers are given. They do not matter: what is strict is reading.
+pub fn any_rules() -> Rules
+    ensures { λ r. ⌜ rulesOf r ≡ anyRules ⌝ }
+{
+    Rules { strict: true }
+}
+
+// How many bytes a row's event has from a running status, and the running status after it. A refusal leaves both as they came.
+#[no_mangle]
+pub extern "C" fn apk_event_length(
+    row: &[u64; 10],
+    payload: &[u8],
+    running: u8,
+    length: &mut usize,
+    after: &mut u8,
+) -> u8
+    ensures answer { λ r. ⌜ r ≡ answered (rowSize running (now (payload .entry)) (now (row .entry))) ⌝ }
+    ensures length { λ r. ⌜ now (length .exit) ≡ leaves (λ (n : Size). n .length) (rowSize running (now (payload .entry)) (now (row .entry))) (now (length .entry)) ⌝ }
+    ensures after { λ r. ⌜ now (after .exit) ≡ leaves (λ (n : Size). n .running) (rowSize running (now (payload .entry)) (now (row .entry))) (now (after .entry)) ⌝ }
+{
+    match event_length(
+        row_event(*row),
+        Running { status: running },
+        any_rules(),
+        payload,
+    ) {
+        EventLength::Refused(refusal) => refusal.number(),
+        EventLength::Length(size) => {
+            *length = size.length;
+            *after = size.running.status;
+            0
+        }
+    }
+}
+
+// A row's event, put at a place of a lent buffer from a running status: the place after it, and the running status after it.
+// A refusal leaves every byte and the place as they came, and the running status as given.
+#[no_mangle]
+pub extern "C" fn apk_event_write(
+    row: &[u64; 10],
+    payload: &[u8],
+    running: u8,
+    out: &mut [u8],
+    at: usize,
+    next: &mut usize,
+    after: &mut u8,
+) -> u8
+    ensures answer { λ r. ⌜ r ≡ answered (rowWritten running (now (payload .entry)) (now (row .entry)) (now (out .entry)) at .written .answer) ⌝ }
+    ensures buffer { λ r. ⌜ now (out .exit) ≡ rowWritten running (now (payload .entry)) (now (row .entry)) (now (out .entry)) at .written .buffer ⌝ }
+    ensures next { λ r. ⌜ now (next .exit) ≡ leaves (λ (n : ℕ). n) (rowWritten running (now (payload .entry)) (now (row .entry)) (now (out .entry)) at .written .answer) (now (next .entry)) ⌝ }
+    ensures after { λ r. ⌜ now (after .exit) ≡ rowWritten running (now (payload .entry)) (now (row .entry)) (now (out .entry)) at .running ⌝ }
+{
+    let event = row_event(*row);
+    match write_event(
+        event,
+        Running { status: running },
+        any_rules(),
+        payload,
+        out,
+        at,
+    ) {
+        WroteEvent::Refused(refusal) => {
+            *after = running;
+            refusal.number()
+        }
+        WroteEvent::Next(past) => {
+            *next = past.next;
+            *after = past.running.status;
+            0
+        }
+    }
+}

@@ -1,0 +1,2 @@
+-- What the entries for header fields answer, in plain numbers.
+pub mod Fields

@@ -1,0 +1,2 @@
+-- What the entries for sameness answer, in plain numbers.
+pub mod Same

@@ -1,0 +1,2 @@
+-- What the entries for SMPTE times answer, in plain numbers.
+pub mod Smpte

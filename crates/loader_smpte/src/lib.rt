@@ -1,0 +1,230 @@
+// The entries for rates and SMPTE times. A rate goes over as its number, a time as six: hour, minute, second, frame, subframe, rate.
+ghost use mathlib.Core.Path.{_≡_};
+ghost use mathlib.Core.List.{List};
+ghost use Prim.Native.Nat.{ℕ};
+ghost use lib.Ieee.{Float};
+ghost use Rattle.smf.specs.Answer.{andThen};
+ghost use Rattle.smf.specs.Seconds.{rateFloat, secondsOf};
+ghost use Rattle.smf.specs.Smpte.{toRate, rateOfCode, codeOfRate, toTime, timeOf, encodeTime, position};
+ghost use Rattle.smf.specs.Width.{lowBits};
+ghost use Rattle.loader.specs.Entry.{answered, leaves};
+ghost use Rattle.loader_smpte.specs.Smpte.{timeGiven, sixOf};
+use header::fps::Fps;
+use header::fps::TriedFps;
+use restricted::u2;
+use smpte::AskedPosition;
+use smpte::AskedSecond;
+use smpte::EncodedSmpteTime;
+use smpte::SmpteTime;
+use smpte::TriedSmpteTime;
+
+// The rate of a code, whose low two bits count.
+#[no_mangle]
+pub extern "C" fn apk_fps_from_code(code: u8) -> u8
+    ensures { λ r. ⌜ r ≡ rateOfCode (lowBits 2 code) ⌝ }
+{
+    Fps::from_code(u2(code)).as_int()
+}
+
+// The two-bit code of a rate.
+#[no_mangle]
+pub extern "C" fn apk_fps_as_code(rate: u8, code: &mut u8) -> u8
+    ensures answer { λ r. ⌜ r ≡ answered (toRate rate) ⌝ }
+    ensures code { λ r. ⌜ now (code .exit) ≡ leaves codeOfRate (toRate rate) (now (code .entry)) ⌝ }
+{
+    match Fps::from_int(rate) {
+        TriedFps::Refused(refusal) => refusal.number(),
+        TriedFps::Made(fps) => {
+            *code = fps.as_code().as_int();
+            0
+        }
+    }
+}
+
+// The rate of a whole number of frames in a second.
+#[no_mangle]
+pub extern "C" fn apk_fps_from_int(raw: u8, rate: &mut u8) -> u8
+    ensures answer { λ r. ⌜ r ≡ answered (toRate raw) ⌝ }
+    ensures rate { λ r. ⌜ now (rate .exit) ≡ leaves (λ (n : ℕ). n) (toRate raw) (now (rate .entry)) ⌝ }
+{
+    match Fps::from_int(raw) {
+        TriedFps::Refused(refusal) => refusal.number(),
+        TriedFps::Made(fps) => {
+            *rate = fps.as_int();
+            0
+        }
+    }
+}
+
+// The frames in a second at a rate, as a float.
+#[no_mangle]
+pub extern "C" fn apk_fps_as_f32(rate: u8, frames: &mut f32) -> u8
+    ensures answer { λ r. ⌜ r ≡ answered (toRate rate) ⌝ }
+    ensures frames { λ r. ⌜ now (frames .exit) ≡ leaves rateFloat (toRate rate) (now (frames .entry)) ⌝ }
+{
+    match Fps::from_int(rate) {
+        TriedFps::Refused(refusal) => refusal.number(),
+        TriedFps::Made(fps) => {
+            *frames = fps.as_f32();
+            0
+        }
+    }
+}
+
+// Whether six numbers are an SMPTE time.
+#[no_mangle]
+pub extern "C" fn apk_smpte_new(
+    hour: u8,
+    minute: u8,
+    second: u8,
+    frame: u8,
+    subframe: u8,
+    rate: u8,
+) -> u8
+    ensures { λ r. ⌜ r ≡ answered (andThen (timeGiven hour minute second frame subframe rate) toTime) ⌝ }
+{
+    match Fps::from_int(rate) {
+        TriedFps::Refused(refusal) => refusal.number(),
+        TriedFps::Made(fps) => match SmpteTime::new(hour, minute, second, frame, subframe, fps) {
+            TriedSmpteTime::Refused(refusal) => refusal.number(),
+            TriedSmpteTime::Made(_) => 0,
+        },
+    }
+}
+
+// The SMPTE time of five bytes, of which the first holds hour and rate code.
+#[no_mangle]
+pub extern "C" fn apk_smpte_read(
+    first: u8,
+    minute: u8,
+    second: u8,
+    frame: u8,
+    subframe: u8,
+    time: &mut [u8; 6],
+) -> u8
+    ensures answer { λ r. ⌜ r ≡ answered (timeOf first minute second frame subframe) ⌝ }
+    ensures time { λ r. ⌜ now (time .exit) ≡ leaves sixOf (timeOf first minute second frame subframe) (now (time .entry)) ⌝ }
+{
+    match SmpteTime::read([first, minute, second, frame, subframe]) {
+        TriedSmpteTime::Refused(refusal) => refusal.number(),
+        TriedSmpteTime::Made(found) => {
+            *time = [
+                found.hour(),
+                found.minute(),
+                found.second(),
+                found.frame(),
+                found.subframe(),
+                found.fps().as_int(),
+            ];
+            0
+        }
+    }
+}
+
+// The five bytes of an SMPTE time.
+#[no_mangle]
+pub extern "C" fn apk_smpte_encode(
+    hour: u8,
+    minute: u8,
+    second: u8,
+    frame: u8,
+    subframe: u8,
+    rate: u8,
+    bytes: &mut [u8; 5],
+) -> u8
+    ensures answer { λ r. ⌜ r ≡ answered (andThen (timeGiven hour minute second frame subframe rate) encodeTime) ⌝ }
+    ensures bytes { λ r. ⌜ now (bytes .exit) ≡ leaves (λ (b : List ℕ). b) (andThen (timeGiven hour minute second frame subframe rate) encodeTime) (now (bytes .entry)) ⌝ }
+{
+    match Fps::from_int(rate) {
+        TriedFps::Refused(refusal) => refusal.number(),
+        TriedFps::Made(fps) => {
+            let time = SmpteTime {
+                hour,
+                minute,
+                second,
+                frame,
+                subframe,
+                fps,
+            };
+            match time.encode() {
+                EncodedSmpteTime::Refused(refusal) => refusal.number(),
+                EncodedSmpteTime::Bytes(first, minute, second, frame, subframe) => {
+                    *bytes = [first, minute, second, frame, subframe];
+                    0
+                }
+            }
+        }
+    }
+}
+
+// The seconds of an SMPTE time with its frames and subframes as their fraction, without hours and minutes.
+#[no_mangle]
+pub extern "C" fn apk_smpte_second_f32(
+    hour: u8,
+    minute: u8,
+    second: u8,
+    frame: u8,
+    subframe: u8,
+    rate: u8,
+    seconds: &mut f32,
+) -> u8
+    ensures answer { λ r. ⌜ r ≡ answered (andThen (timeGiven hour minute second frame subframe rate) secondsOf) ⌝ }
+    ensures seconds { λ r. ⌜ now (seconds .exit) ≡ leaves (λ (x : Float). x) (andThen (timeGiven hour minute second frame subframe rate) secondsOf) (now (seconds .entry)) ⌝ }
+{
+    match Fps::from_int(rate) {
+        TriedFps::Refused(refusal) => refusal.number(),
+        TriedFps::Made(fps) => {
+            let time = SmpteTime {
+                hour,
+                minute,
+                second,
+                frame,
+                subframe,
+                fps,
+            };
+            match time.second_f32() {
+                AskedSecond::Refused(refusal) => refusal.number(),
+                AskedSecond::Is(found) => {
+                    *seconds = found;
+                    0
+                }
+            }
+        }
+    }
+}
+
+// The place of an SMPTE time in the day, in subframes.
+#[no_mangle]
+pub extern "C" fn apk_smpte_position(
+    hour: u8,
+    minute: u8,
+    second: u8,
+    frame: u8,
+    subframe: u8,
+    rate: u8,
+    subframes: &mut u32,
+) -> u8
+    ensures answer { λ r. ⌜ r ≡ answered (andThen (timeGiven hour minute second frame subframe rate) position) ⌝ }
+    ensures subframes { λ r. ⌜ now (subframes .exit) ≡ leaves (λ (n : ℕ). n) (andThen (timeGiven hour minute second frame subframe rate) position) (now (subframes .entry)) ⌝ }
+{
+    match Fps::from_int(rate) {
+        TriedFps::Refused(refusal) => refusal.number(),
+        TriedFps::Made(fps) => {
+            let time = SmpteTime {
+                hour,
+                minute,
+                second,
+                frame,
+                subframe,
+                fps,
+            };
+            match time.position() {
+                AskedPosition::Refused(refusal) => refusal.number(),
+                AskedPosition::Is(found) => {
+                    *subframes = found;
+                    0
+                }
+            }
+        }
+    }
+}

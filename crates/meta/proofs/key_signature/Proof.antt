@@ -1,0 +1,45 @@
+-- `key_signature` meets its contract, by the form of its type.
+use mathlib.Core.Path.{_≡_, _∙_, refl, sym, ap}
+use native.Mathlib.Omega.{arith}
+use denote.Ref.{now}
+use mir.Syntax.{w8}
+use mir.Facts.{toZ-ofZ}
+use Rattle.smf.proofs.CalledAt.{called-key, called-short-key}
+use Rattle.number.specs.Rules.{rulesOf}
+use Rattle.meta.specs.Meta.{spanOf}
+use borrow.Author.Needs.{needs}
+use Rattle.meta.proofs.key_signature.Statement.{statement}
+use Rattle.meta.proofs.key_signature.Tie as tie
+
+returns : tie.Need-returns
+returns c = called-short-key (rulesOf (c .before .before .before .args .rules)) (now (c .before .before .before .args .raw)) (λ i. c .before .before .shared-slice-known .given i .fits) (spanOf (c .before .before .before .args .load)) (c .before .before .before .pre) (c .if1 .taken)
+
+shared-slice-read-from-byte : tie.Need-shared-slice-read-from-byte
+shared-slice-read-from-byte c = search needs
+
+from-byte-requires : tie.Need-from-byte-requires
+from-byte-requires c κs = search needs
+
+add-minor : tie.Need-add-minor
+add-minor c = search needs
+
+shared-slice-read-minor : tie.Need-shared-slice-read-minor
+shared-slice-read-minor c = search needs
+
+message-requires : tie.Need-message-requires
+message-requires c κs = search needs
+
+returns-2 : tie.Need-returns-2
+returns-2 c = c .message .ensures ∙ rw (toZ-ofZ {w = w8} (record { sfits = c .before .before .from-byte .ok }), c .before .before .from-byte .ensures) (called-key (rulesOf (c .before .before .before .before .before .before .before .args .rules)) (now (c .before .before .before .before .before .before .before .args .raw)) (λ i. c .before .before .before .before .before .before .shared-slice-known .given i .fits) (spanOf (c .before .before .before .before .before .before .before .args .load)) (c .before .before .before .before .before .before .before .pre) (c .before .before .before .before .if1 .left))
+
+pub key-signature-spec : {M : Type 1} → statement M
+key-signature-spec =
+    tie.close
+    (tie.spec
+    returns
+    shared-slice-read-from-byte
+    from-byte-requires
+    add-minor
+    shared-slice-read-minor
+    message-requires
+    returns-2)

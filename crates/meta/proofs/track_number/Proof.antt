@@ -1,0 +1,39 @@
+-- `track_number` meets its contract, by the form of its type.
+use mathlib.Core.Path.{_≡_, _∙_, refl, sym, ap}
+use native.Mathlib.Omega.{arith}
+use denote.Ref.{now}
+use mathlib.Core.Bool.{true}
+use Rattle.smf.proofs.CalledAt.{called-number, called-no-number}
+use Rattle.meta.specs.Meta.{spanOf}
+use borrow.Author.Needs.{needs}
+use Rattle.meta.proofs.track_number.Statement.{statement}
+use Rattle.meta.proofs.track_number.Tie as tie
+
+shared-slice-read-word : tie.Need-shared-slice-read-word
+shared-slice-read-word c = search needs
+
+add-word : tie.Need-add-word
+add-word c = search needs
+
+shared-slice-read-word-2 : tie.Need-shared-slice-read-word-2
+shared-slice-read-word-2 c = search needs
+
+word-requires : tie.Need-word-requires
+word-requires c κs = search needs
+
+returns : tie.Need-returns
+returns c = rw (c .word .ensures) (called-number (record { strict = true }) (now (c .before .before .before .before .before .before .args .raw)) (λ i. c .before .before .before .before .before .shared-slice-known .given i .fits) (spanOf (c .before .before .before .before .before .before .args .load)) (c .before .before .before .before .before .before .pre) (c .before .before .before .if1 .taken))
+
+returns-2 : tie.Need-returns-2
+returns-2 c = called-no-number (record { strict = true }) (now (c .before .before .before .args .raw)) (λ i. c .before .before .shared-slice-known .given i .fits) (spanOf (c .before .before .before .args .load)) (c .before .before .before .pre) (c .if1 .left)
+
+pub track-number-spec : {M : Type 1} → statement M
+track-number-spec =
+    tie.close
+    (tie.spec
+    shared-slice-read-word
+    add-word
+    shared-slice-read-word-2
+    word-requires
+    returns
+    returns-2)

@@ -1,0 +1,2 @@
+-- What a meta message and the answers of this crate say, in the paper's terms.
+pub mod Meta

@@ -1,0 +1,245 @@
+// Meta messages. A payload is its range of the bytes lent.
+ghost use mathlib.Core.Path.{_≡_};
+ghost use Prim.Native.Nat.{_+_, _^_, _≤_, _<_};
+ghost use Rattle.smf.specs.Answer.{gives};
+ghost use lib.ListN.{length};
+ghost use Rattle.smf.specs.Kind.{trackNumberOf};
+ghost use Rattle.smf.specs.Event.{mapMeta, bytesOf};
+ghost use Rattle.smf.specs.MetaAt.{metaAt, calledAt};
+ghost use Rattle.number.specs.Rules.{rulesOf};
+ghost use Rattle.meta.specs.Meta.{spanOf, numberMeta, metaPlaced, metaRead};
+use header::field::word;
+use header::signed::from_byte;
+use number::rules::Range;
+use number::rules::Rules;
+use payload::ReadSlice;
+use payload::read_varlen_slice;
+use refusal::Refusal;
+use restricted::u4;
+use restricted::u7;
+use restricted::u24;
+use smpte::SmpteTime;
+use smpte::TriedSmpteTime;
+
+// A track number that may be missing: the Rust's `Option<u16>`.
+pub enum OptionU16 {
+    Some(u16),
+    None,
+}
+
+pub enum MetaMessage {
+    TrackNumber(OptionU16),
+    Text(Range),
+    Copyright(Range),
+    TrackName(Range),
+    InstrumentName(Range),
+    Lyric(Range),
+    Marker(Range),
+    CuePoint(Range),
+    ProgramName(Range),
+    DeviceName(Range),
+    MidiChannel(u4),
+    MidiPort(u7),
+    EndOfTrack,
+    Tempo(u24),
+    SmpteOffset(SmpteTime),
+    TimeSignature(u8, u8, u8, u8),
+    KeySignature(i8, bool),
+    SequencerSpecific(Range),
+    Unknown(u8, Range),
+}
+
+// A meta message that was read at a place, and the place after it.
+pub struct MetaAt {
+    pub message: MetaMessage,
+    pub next: usize,
+}
+
+pub enum ReadMeta {
+    Message(MetaAt),
+    Refused(Refusal),
+}
+
+// A message whose payload is what was read last: it ends there.
+fn message(message: MetaMessage, load: Range) -> ReadMeta
+    requires { ⌜ load .start + load .length < 2 ^ 64 ⌝ }
+    ensures { λ r. ⌜ metaRead r ≡ gives (metaPlaced message (load .start + load .length)) ⌝ }
+{
+    let next = load.start + load.length;
+    ReadMeta::Message(MetaAt { message, next })
+}
+
+// 00: the first two bytes, or none.
+fn track_number(raw: &[u8], load: Range) -> OptionU16
+    requires { ⌜ load .start + load .length ≤ length (now raw) ⌝ }
+    ensures { λ r. ⌜ numberMeta r ≡ mapMeta (λ p. spanOf load) (trackNumberOf (bytesOf (now (raw .entry)) (spanOf load))) ⌝ }
+{
+    let start = load.start;
+    if 2 <= load.length {
+        OptionU16::Some(word(raw[start], raw[start + 1]))
+    } else {
+        OptionU16::None
+    }
+}
+
+// 20: a channel; lenient keeps the low bits.
+fn channel(raw: &[u8], load: Range, rules: Rules) -> ReadMeta
+    requires { ⌜ load .start + load .length ≤ length (now raw) ⌝ }
+    ensures { λ r. ⌜ metaRead r ≡ calledAt (rulesOf rules) (now (raw .entry)) 0x20 (spanOf load) ⌝ }
+{
+    let start = load.start;
+    if load.length < 1 {
+        return message(MetaMessage::Unknown(0x20, load), load);
+    }
+    let byte = raw[start];
+    if byte < 16 {
+        return message(MetaMessage::MidiChannel(u4(byte)), load);
+    }
+    if rules.strict {
+        return ReadMeta::Refused(Refusal::ChannelOrPort);
+    }
+    message(MetaMessage::MidiChannel(u4(byte % 16)), load)
+}
+
+// 21: a port; lenient keeps the low bits.
+fn port(raw: &[u8], load: Range, rules: Rules) -> ReadMeta
+    requires { ⌜ load .start + load .length ≤ length (now raw) ⌝ }
+    ensures { λ r. ⌜ metaRead r ≡ calledAt (rulesOf rules) (now (raw .entry)) 0x21 (spanOf load) ⌝ }
+{
+    let start = load.start;
+    if load.length < 1 {
+        return message(MetaMessage::Unknown(0x21, load), load);
+    }
+    let byte = raw[start];
+    if byte < 128 {
+        return message(MetaMessage::MidiPort(u7(byte)), load);
+    }
+    if rules.strict {
+        return ReadMeta::Refused(Refusal::ChannelOrPort);
+    }
+    message(MetaMessage::MidiPort(u7(byte % 128)), load)
+}
+
+// 51: three bytes, the highest first.
+fn tempo(raw: &[u8], load: Range, rules: Rules) -> ReadMeta
+    requires { ⌜ load .start + load .length ≤ length (now raw) ⌝ }
+    ensures { λ r. ⌜ metaRead r ≡ calledAt (rulesOf rules) (now (raw .entry)) 0x51 (spanOf load) ⌝ }
+{
+    let start = load.start;
+    if load.length < 3 {
+        return message(MetaMessage::Unknown(0x51, load), load);
+    }
+    let high = raw[start] as u32;
+    let low = word(raw[start + 1], raw[start + 2]) as u32;
+    message(MetaMessage::Tempo(u24(high * 65536 + low)), load)
+}
+
+// 54: an SMPTE time.
+fn smpte_offset(raw: &[u8], load: Range, rules: Rules) -> ReadMeta
+    requires { ⌜ load .start + load .length ≤ length (now raw) ⌝ }
+    ensures { λ r. ⌜ metaRead r ≡ calledAt (rulesOf rules) (now (raw .entry)) 0x54 (spanOf load) ⌝ }
+{
+    let start = load.start;
+    if load.length < 5 {
+        return message(MetaMessage::Unknown(0x54, load), load);
+    }
+    let bytes = [
+        raw[start],
+        raw[start + 1],
+        raw[start + 2],
+        raw[start + 3],
+        raw[start + 4],
+    ];
+    match SmpteTime::read(bytes) {
+        TriedSmpteTime::Made(time) => message(MetaMessage::SmpteOffset(time), load),
+        TriedSmpteTime::Refused(refusal) => ReadMeta::Refused(refusal),
+    }
+}
+
+// 58: numerator, denominator, MIDI clocks per click, 32nd notes per quarter.
+fn time_signature(raw: &[u8], load: Range, rules: Rules) -> ReadMeta
+    requires { ⌜ load .start + load .length ≤ length (now raw) ⌝ }
+    ensures { λ r. ⌜ metaRead r ≡ calledAt (rulesOf rules) (now (raw .entry)) 0x58 (spanOf load) ⌝ }
+{
+    let start = load.start;
+    if load.length < 4 {
+        return message(MetaMessage::Unknown(0x58, load), load);
+    }
+    let signature = MetaMessage::TimeSignature(
+        raw[start],
+        raw[start + 1],
+        raw[start + 2],
+        raw[start + 3],
+    );
+    message(signature, load)
+}
+
+// 59: refused where it is short, and not made `Unknown` as its neighbours are.
+fn key_signature(raw: &[u8], load: Range, rules: Rules) -> ReadMeta
+    requires { ⌜ load .start + load .length ≤ length (now raw) ⌝ }
+    ensures { λ r. ⌜ metaRead r ≡ calledAt (rulesOf rules) (now (raw .entry)) 0x59 (spanOf load) ⌝ }
+{
+    let start = load.start;
+    if load.length < 2 {
+        return ReadMeta::Refused(Refusal::KeySignatureShort);
+    }
+    let sharps = from_byte(raw[start]);
+    let minor = raw[start + 1] != 0;
+    message(MetaMessage::KeySignature(sharps, minor), load)
+}
+
+// 00 to 09: the track number and the text kinds.
+fn text(type_byte: u8, raw: &[u8], load: Range, rules: Rules) -> ReadMeta
+    requires { ⌜ (load .start + load .length ≤ length (now raw)) × («type_byte» < 10) ⌝ }
+    ensures { λ r. ⌜ metaRead r ≡ calledAt (rulesOf rules) (now (raw .entry)) «type_byte» (spanOf load) ⌝ }
+{
+    match type_byte {
+        0x00 => message(MetaMessage::TrackNumber(track_number(raw, load)), load),
+        0x01 => message(MetaMessage::Text(load), load),
+        0x02 => message(MetaMessage::Copyright(load), load),
+        0x03 => message(MetaMessage::TrackName(load), load),
+        0x04 => message(MetaMessage::InstrumentName(load), load),
+        0x05 => message(MetaMessage::Lyric(load), load),
+        0x06 => message(MetaMessage::Marker(load), load),
+        0x07 => message(MetaMessage::CuePoint(load), load),
+        0x08 => message(MetaMessage::ProgramName(load), load),
+        _ => message(MetaMessage::DeviceName(load), load),
+    }
+}
+
+// What a payload is called under its type.
+fn named(type_byte: u8, raw: &[u8], load: Range, rules: Rules) -> ReadMeta
+    requires { ⌜ load .start + load .length ≤ length (now raw) ⌝ }
+    ensures { λ r. ⌜ metaRead r ≡ calledAt (rulesOf rules) (now (raw .entry)) «type_byte» (spanOf load) ⌝ }
+{
+    if type_byte < 0x0A {
+        return text(type_byte, raw, load, rules);
+    }
+    match type_byte {
+        0x20 => channel(raw, load, rules),
+        0x21 => port(raw, load, rules),
+        0x2F => message(MetaMessage::EndOfTrack, load),
+        0x51 => tempo(raw, load, rules),
+        0x54 => smpte_offset(raw, load, rules),
+        0x58 => time_signature(raw, load, rules),
+        0x59 => key_signature(raw, load, rules),
+        0x7F => message(MetaMessage::SequencerSpecific(load), load),
+        _ => message(MetaMessage::Unknown(type_byte, load), load),
+    }
+}
+
+impl MetaMessage {
+    // The meta message at a place, from its type byte on.
+    pub fn read(raw: &[u8], at: usize, rules: Rules) -> ReadMeta
+        ensures { λ r. ⌜ metaRead r ≡ metaAt (rulesOf rules) (now (raw .entry)) at ⌝ }
+    {
+        if raw.len() <= at {
+            return ReadMeta::Refused(Refusal::NoMetaType);
+        }
+        let type_byte = raw[at];
+        match read_varlen_slice(raw, at + 1, rules) {
+            ReadSlice::Refused(refusal) => ReadMeta::Refused(refusal),
+            ReadSlice::Slice(load) => named(type_byte, raw, load, rules),
+        }
+    }
+}

@@ -1,0 +1,2 @@
+-- What a channel message says, in the paper's terms.
+pub mod Midi

@@ -1,0 +1,3 @@
+pub mod Identical
+pub mod Slices
+pub mod Copying

@@ -1,0 +1,2 @@
+-- The event of a row.
+pub mod RowEvent

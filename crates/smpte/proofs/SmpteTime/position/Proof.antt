@@ -1,0 +1,108 @@
+-- `SmpteTime::position` meets its contract: a legal time's counts fit.
+use mathlib.Core.Path.{_≡_, sym, _∙_}
+use mathlib.Core.Bool.{true}
+use Prim.Native.Nat.{_+_, _*_, _<_}
+use native.Mathlib.Omega.{arith}
+use borrow.Author.Tests.{not-true, not-false}
+use Rattle.smf.specs.Smpte.{Time, isTime, seconds, frames, subframes, position}
+use Rattle.smf.proofs.Smpte.{in-range, frames-below}
+use Rattle.smpte.specs.Smpte.{smpteTimeOf}
+use borrow.Author.Needs.{needs}
+use Rattle.smpte.proofs.SmpteTime.position.Statement.{statement}
+use Rattle.smpte.proofs.SmpteTime.position.Tie as tie
+
+in-range-requires : tie.Need-in-range-requires
+in-range-requires c κs = search needs
+
+returns : tie.Need-returns
+unfolding position
+returns c = rw (sym (c .before .in-range .ensures) ∙ not-true _ (c .if1 .taken))
+
+-- the time is legal
+legal : (c : tie.Else1) → isTime (smpteTimeOf (c .before .before .args .self)) ≡ true
+legal c = sym (c .before .in-range .ensures) ∙ not-false _ (c .if1 .left)
+
+cast-seconds : tie.Need-cast-seconds
+cast-seconds c = search needs
+
+mul-seconds : tie.Need-mul-seconds
+mul-seconds c = search needs
+
+cast-seconds-2 : tie.Need-cast-seconds-2
+cast-seconds-2 c = search needs
+
+mul-seconds-2 : tie.Need-mul-seconds-2
+mul-seconds-2 c = search needs
+
+add-seconds : tie.Need-add-seconds
+add-seconds c = search needs
+
+cast-seconds-3 : tie.Need-cast-seconds-3
+cast-seconds-3 c = search needs
+
+add-seconds-2 : tie.Need-add-seconds-2
+add-seconds-2 c = search needs
+
+as-int-requires : tie.Need-as-int-requires
+as-int-requires c κs = search needs
+
+cast-frames : tie.Need-cast-frames
+cast-frames c = search needs
+
+-- the time whose position is asked
+abbrev asked : tie.After-as-int → Time
+asked c = smpteTimeOf (c .before .before .before .before .before .before .args .self)
+
+-- the frames that are counted
+below : (c : tie.After-as-int) → seconds (asked c) * c .as-int .result + asked c .frame < 2592000
+unfolding frames
+below c = rw (c .as-int .ensures) (frames-below (asked c) (in-range (asked c) (legal (c .before .before .before .before))))
+
+mul-frames : tie.Need-mul-frames
+unfolding seconds
+mul-frames c = record { fits = omega (arith, below c) }
+
+cast-frames-2 : tie.Need-cast-frames-2
+cast-frames-2 c = search needs
+
+add-frames : tie.Need-add-frames
+unfolding seconds
+add-frames c = record { fits = omega (arith, below (c .before)) }
+
+mul-subframes : tie.Need-mul-subframes
+unfolding seconds
+mul-subframes c = record { fits = omega (arith, below (c .before)) }
+
+cast-subframes : tie.Need-cast-subframes
+cast-subframes c = search needs
+
+add-subframes : tie.Need-add-subframes
+unfolding seconds
+add-subframes c = record { fits = omega (arith, below (c .before .before)) }
+
+returns-2 : tie.Need-returns-2
+unfolding position subframes frames seconds
+returns-2 c = rw (legal (c .before .before .before .before .before .before), c .before .before .as-int .ensures)
+
+pub position-spec : {M : Type 1} → statement M
+position-spec =
+    tie.close
+    (tie.spec
+    in-range-requires
+    returns
+    cast-seconds
+    mul-seconds
+    cast-seconds-2
+    mul-seconds-2
+    add-seconds
+    cast-seconds-3
+    add-seconds-2
+    as-int-requires
+    cast-frames
+    mul-frames
+    cast-frames-2
+    add-frames
+    mul-subframes
+    cast-subframes
+    add-subframes
+    returns-2)
