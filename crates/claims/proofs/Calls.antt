@@ -28,10 +28,11 @@ use Rattle.track.specs.Read.{listRead}
 use Rattle.track.specs.declared.list.EventList.{EventList}
 use Rattle.track.specs.declared.read.ReadList.{ReadList}
 use Rattle.writing.specs.Write.{wroteEvent}
-use Rattle.writing.specs.declared.write.WroteEvent.{WroteEvent}
-use Rattle.compose.specs.Lengths.{sizeSaid, wroteList}
-use Rattle.compose.specs.declared.length.ListLength as length
-use Rattle.compose.specs.declared.write.WroteList.{WroteList}
+use Rattle.writing.specs.declared.WroteEvent.{WroteEvent}
+use Rattle.lengths.specs.Lengths.{sizeSaid}
+use Rattle.compose.specs.Written.{wroteList}
+use Rattle.lengths.specs.declared.ListLength as length
+use Rattle.compose.specs.declared.WroteList.{WroteList}
 use Rattle.claims.specs.Calls.{ReadU7, WriteVarlen, ReadVarlenSlice, WriteVarlenSlice, MetaMessageRead, TrackEventRead, EventListRead, WriteEvent, ListLength, WriteList}
 
 pub read-u7 : (Claim : List ℕ → ℕ → Rules → ReadNumber → Type 0)

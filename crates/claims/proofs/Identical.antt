@@ -17,9 +17,11 @@ use Rattle.meta.proofs.Identical.{metaRead-injective}
 use Rattle.event.proofs.Identical.{eventOf-injective, eventRead-injective}
 use Rattle.legal.proofs.Identical.{verdictOf-injective}
 use Rattle.measure.proofs.Identical.{lengthSaid-injective, formLengthSaid-injective}
-use Rattle.writing.proofs.Identical.{putLeft-injective, wroteEvent-injective}
+use Rattle.put.proofs.Identical.{putLeft-injective}
+use Rattle.writing.proofs.Identical.{wroteEvent-injective}
 use Rattle.track.proofs.Identical.{heldOf-injective, listRead-injective}
-use Rattle.compose.proofs.Identical.{sizeSaid-injective, wroteList-injective}
+use Rattle.lengths.proofs.Identical.{sizeSaid-injective}
+use Rattle.compose.proofs.Identical.{wroteList-injective}
 use Rattle.rows.specs.Rows.{rowNumbers}
 use Rattle.rows.specs.declared.Row.{Row}
 use Rattle.same.proofs.Identical.{tells-identical}

@@ -30,7 +30,7 @@ use Rattle.event.specs.declared.track_event.TrackEvent.{TrackEvent}
 use Rattle.track.specs.Read.{listRead}
 use Rattle.track.specs.declared.read.ReadList.{ReadList}
 use Rattle.writing.specs.Write.{wroteEvent}
-use Rattle.writing.specs.declared.write.WroteEvent.{WroteEvent}
+use Rattle.writing.specs.declared.WroteEvent.{WroteEvent}
 use Rattle.claims.specs.Calls.{EventListRead}
 use Rattle.claims.specs.Point2.{ownWritten, p1, p2, p3, nth, TwoEvents, OtherEvent, Point2}
 use Rattle.claims.proofs.Calls as calls

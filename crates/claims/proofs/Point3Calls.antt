@@ -19,11 +19,11 @@ use Rattle.number.specs.declared.rules.Running.{Running}
 use Rattle.event.specs.Event.{eventOf}
 use Rattle.event.specs.declared.track_event.TrackEvent.{TrackEvent}
 use Rattle.writing.specs.Write.{wroteEvent}
-use Rattle.writing.specs.declared.write.WroteEvent.{WroteEvent}
-use Rattle.writing.specs.declared.write.WroteEvent.the-variants as event
+use Rattle.writing.specs.declared.WroteEvent.{WroteEvent}
+use Rattle.writing.specs.declared.WroteEvent.the-variants as event
 use Rattle.track.specs.Read.{listRead}
 use Rattle.track.specs.declared.list.EventList.{EventList}
-use Rattle.compose.specs.Lengths.{wroteList}
+use Rattle.compose.specs.Written.{wroteList}
 use Rattle.claims.specs.Point3.{Accepted, Written, ReadBack, ReadAgain, NeverBegins, Point3}
 use Rattle.claims.specs.Calls.{EventListRead, WriteEvent}
 use Rattle.claims.proofs.Calls as calls

@@ -21,9 +21,9 @@ use Rattle.event.specs.declared.track_event.TrackEvent.{TrackEvent}
 use Rattle.event.specs.declared.read.ReadEvent.{ReadEvent}
 use Rattle.track.specs.declared.list.EventList.{EventList}
 use Rattle.track.specs.declared.read.ReadList.{ReadList}
-use Rattle.writing.specs.declared.write.WroteEvent.{WroteEvent}
-use Rattle.compose.specs.declared.length.ListLength as length
-use Rattle.compose.specs.declared.write.WroteList.{WroteList}
+use Rattle.writing.specs.declared.WroteEvent.{WroteEvent}
+use Rattle.lengths.specs.declared.ListLength as length
+use Rattle.compose.specs.declared.WroteList.{WroteList}
 use Rattle.number.proofs.varlen.u28.read_u7 as read-u7
 use Rattle.number.proofs.varlen.u28.write_varlen as write-varlen
 use Rattle.payload.proofs.read_varlen_slice as read-varlen-slice
@@ -31,9 +31,9 @@ use Rattle.payload.proofs.write_varlen_slice as write-varlen-slice
 use Rattle.meta.proofs.MetaMessage.read as read-meta
 use Rattle.event.proofs.track_event.TrackEvent.read as read-event
 use Rattle.track.proofs.list.EventList.read as read-list
-use Rattle.writing.proofs.write.write_event as write-event
-use Rattle.compose.proofs.length.list_length as list-length
-use Rattle.compose.proofs.write.write_list as write-list
+use Rattle.writing.proofs.write_event as write-event
+use Rattle.lengths.proofs.list_length as list-length
+use Rattle.compose.proofs.write_list as write-list
 
 module _ (n : ℕ) (ps : List (PK n)) (r : RK n) (Told : Out n ps r) where
   -- whatever the promise permits, the claim holds of it

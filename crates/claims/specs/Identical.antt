@@ -14,12 +14,15 @@ use Rattle.event.proofs as event
 use Rattle.shape.proofs as shape
 use Rattle.legal.proofs as legal
 use Rattle.measure.proofs as measure
+use Rattle.put.proofs as put
 use Rattle.writing.proofs as writing
 use Rattle.track.proofs as track
+use Rattle.lengths.proofs as lengths
 use Rattle.compose.proofs as compose
 use Rattle.rows.proofs as rows
 use Rattle.rows_back.proofs as rows-back
 use Rattle.same.proofs as same
+use Rattle.same_lists.proofs as same-lists
 use Rattle.claims.specs.Calls.{OneAnswer, OneAnswerAndEnd}
 
 -- `restricted`, `refusal`, `number`, `payload`: restricted numbers, refusals, the running status, variable-length numbers and payloads
@@ -100,7 +103,7 @@ pub record Bends : Type 0 where
   pub as-f32 : OneAnswer 0 bend.PitchBend.«as_f32».Kinds.ps bend.PitchBend.«as_f32».Kinds.r bend.PitchBend.«as_f32».Reads.Learnt
   pub as-f64 : OneAnswer 0 bend.PitchBend.«as_f64».Kinds.ps bend.PitchBend.«as_f64».Kinds.r bend.PitchBend.«as_f64».Reads.Learnt
 
--- `midi`, `meta`, `event`, `shape`, `legal`, `measure`, `writing`: one event, read, judged, measured and written
+-- `midi`, `meta`, `event`, `shape`, `legal`, `measure`, `put`, `writing`: one event, read, judged, measured and written
 pub record Events : Type 0 where
   pub msg-length : OneAnswer 0 midi.MidiMessage.«msg_length».Kinds.ps midi.MidiMessage.«msg_length».Kinds.r midi.MidiMessage.«msg_length».Reads.Learnt
   pub midi-read : OneAnswer 0 midi.MidiMessage.read.Kinds.ps midi.MidiMessage.read.Kinds.r midi.MidiMessage.read.Reads.Learnt
@@ -115,20 +118,20 @@ pub record Events : Type 0 where
   pub form-measure : OneAnswer 1 measure.size.«form_measure».Kinds.ps measure.size.«form_measure».Kinds.r measure.size.«form_measure».Reads.Learnt
   pub measure-event : OneAnswer 1 measure.length.measure.Kinds.ps measure.length.measure.Kinds.r measure.length.measure.Reads.Learnt
   pub event-length : OneAnswer 1 measure.length.«event_length».Kinds.ps measure.length.«event_length».Kinds.r measure.length.«event_length».Reads.Learnt
-  pub put-event : OneAnswerAndEnd 2 writing.put.«put_event».Kinds.ps writing.put.«put_event».Kinds.r writing.put.«put_event».Reads.Learnt (λ κs e. now (e .1 .1 .1 .1 .0))
-  pub write-event : OneAnswerAndEnd 2 writing.write.«write_event».Kinds.ps writing.write.«write_event».Kinds.r writing.write.«write_event».Reads.Learnt (λ κs e. now (e .1 .1 .1 .1 .0))
+  pub put-event : OneAnswerAndEnd 2 put.«put_event».Kinds.ps put.«put_event».Kinds.r put.«put_event».Reads.Learnt (λ κs e. now (e .1 .1 .1 .1 .0))
+  pub write-event : OneAnswerAndEnd 2 writing.«write_event».Kinds.ps writing.«write_event».Kinds.r writing.«write_event».Reads.Learnt (λ κs e. now (e .1 .1 .1 .1 .0))
 
--- `track`, `compose`, `rows`, `rows_back`, `same`: lists of events, an event as a row of numbers, and sameness
+-- `track`, `lengths`, `compose`, `rows`, `rows_back`, `same`, `same_lists`: lists of events, an event as a row of numbers, and sameness
 pub record Lists : Type 0 where
   pub list-new : OneAnswer 0 track.list.EventList.new.Kinds.ps track.list.EventList.new.Kinds.r track.list.EventList.new.Reads.Learnt
   pub list-read : OneAnswer 1 track.list.EventList.read.Kinds.ps track.list.EventList.read.Kinds.r track.list.EventList.read.Reads.Learnt
-  pub list-length : OneAnswer 1 compose.length.«list_length».Kinds.ps compose.length.«list_length».Kinds.r compose.length.«list_length».Reads.Learnt
-  pub write-list : OneAnswerAndEnd 2 compose.write.«write_list».Kinds.ps compose.write.«write_list».Kinds.r compose.write.«write_list».Reads.Learnt (λ κs e. now (e .1 .1 .1 .1 .0))
+  pub list-length : OneAnswer 1 lengths.«list_length».Kinds.ps lengths.«list_length».Kinds.r lengths.«list_length».Reads.Learnt
+  pub write-list : OneAnswerAndEnd 2 compose.«write_list».Kinds.ps compose.«write_list».Kinds.r compose.«write_list».Reads.Learnt (λ κs e. now (e .1 .1 .1 .1 .0))
   pub kind-row : OneAnswer 0 rows.«kind_row».Kinds.ps rows.«kind_row».Kinds.r rows.«kind_row».Reads.Learnt
   pub event-row : OneAnswer 0 rows.«event_row».Kinds.ps rows.«event_row».Kinds.r rows.«event_row».Reads.Learnt
   pub row-event : OneAnswer 0 rows-back.«row_event».Kinds.ps rows-back.«row_event».Kinds.r rows-back.«row_event».Reads.Learnt
-  pub same-event : OneAnswer 2 same.events.«same_event».Kinds.ps same.events.«same_event».Kinds.r same.events.«same_event».Reads.Learnt
-  pub same-list : OneAnswer 2 same.lists.«same_list».Kinds.ps same.lists.«same_list».Kinds.r same.lists.«same_list».Reads.Learnt
+  pub same-event : OneAnswer 2 same.«same_event».Kinds.ps same.«same_event».Kinds.r same.«same_event».Reads.Learnt
+  pub same-list : OneAnswer 2 same-lists.«same_list».Kinds.ps same-lists.«same_list».Kinds.r same-lists.«same_list».Reads.Learnt
 
 -- all of them
 pub record Identical : Type 0 where

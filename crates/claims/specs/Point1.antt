@@ -34,7 +34,8 @@ use Rattle.measure.specs.Length.{lengthSaid, formLengthSaid}
 use Rattle.measure.proofs as measure
 use Rattle.writing.specs.Write.{wroteEvent}
 use Rattle.track.specs.Read.{listRead}
-use Rattle.compose.specs.Lengths.{sizeSaid, wroteList}
+use Rattle.lengths.specs.Lengths.{sizeSaid}
+use Rattle.compose.specs.Written.{wroteList}
 use Rattle.claims.specs.Calls.{Always, ReadU7, WriteVarlen, ReadVarlenSlice, WriteVarlenSlice, MetaMessageRead, TrackEventRead, EventListRead, WriteEvent, ListLength, WriteList}
 use Rattle.claims.specs.Table.{inTable, By, Keeps, ofNumber, ofPayload, ofMeta, ofLegality, ofLength}
 use Rattle.claims.specs.Stands.{EventOrLeft, ListStands}

@@ -16,11 +16,11 @@ use Rattle.number.specs.declared.rules.Running.{Running}
 use Rattle.event.specs.Event.{eventOf}
 use Rattle.event.specs.declared.track_event.TrackEvent.{TrackEvent}
 use Rattle.writing.specs.Write.{wroteEvent}
-use Rattle.writing.specs.declared.write.WroteEvent.{WroteEvent}
+use Rattle.writing.specs.declared.WroteEvent.{WroteEvent}
 use Rattle.track.specs.Read.{listRead}
 use Rattle.track.specs.declared.list.EventList.{EventList}
 use Rattle.track.specs.declared.read.ReadList.{ReadList}
-use Rattle.compose.specs.Lengths.{wroteList}
+use Rattle.compose.specs.Written.{wroteList}
 use Rattle.claims.specs.Calls.{EventListRead, WriteEvent, WriteList}
 
 module _ (rules : Rules) (most running : ℕ) (bytes : List ℕ) (records : List (Event Span)) (count : ℕ) where

@@ -13,9 +13,9 @@ use Rattle.smf.specs.Lists.{RecordsLegal, listed, eventAfter, encodeList, listA
 use Rattle.smf.proofs.Write.{length-over, over-over}
 use Rattle.smf.proofs.ListWrites.{encode-next, after-next}
 use Rattle.legal.specs.Legal.{settled}
-use Rattle.writing.specs.Put.{EventPut, putLeft, putEvent}
-use Rattle.writing.specs.declared.put.Past.{Past}
-use Rattle.writing.proofs.Composed.{put-legal}
+use Rattle.put.specs.Put.{EventPut, putLeft, putEvent}
+use Rattle.put.specs.declared.Past.{Past}
+use Rattle.put.proofs.Composed.{put-legal}
 
 map-behind : {A B : Type 0} (f : A → B) (xs ys : List A) → map f (xs ++ ys) ≡ map f xs ++ map f ys
 map-behind f [] ys = refl

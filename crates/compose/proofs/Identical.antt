@@ -5,27 +5,9 @@ use Prim.Native.Nat.{ℕ}
 use Rattle.smf.specs.Lists as smf
 use Rattle.refusal.specs.declared.Refusal.{Refusal}
 use Rattle.refusal.proofs.RefusalNumbers.{refusalOf, number-back}
-use Rattle.smf.proofs.Answer.{injective}
-use Rattle.compose.specs.Lengths.{sizeSaid, wroteList}
-use Rattle.compose.specs.declared.length.ListLength.{ListLength}
-use Rattle.compose.specs.declared.length.ListLength.the-variants as long
-use Rattle.compose.specs.declared.write.WroteList.{WroteList}
-use Rattle.compose.specs.declared.write.WroteList.the-variants as wrote
-
-backSize : smf.ListAnswer → ℕ → ListLength
-backSize (smf.wrote n) running = long.Length (record { length = n; running = record { status = running } })
-backSize (smf.refusesAt n i) running = long.Refused (record { refusal = refusalOf n; index = i })
-
-backSized : smf.ListSize → ListLength
-backSized s = backSize (s .answer) (s .running)
-
-sameSize : (running : ℕ) (r : ListLength) → backSized (sizeSaid running r) ≡ r
-unfolding backSized backSize
-sameSize running (long.Length s) = refl
-sameSize running (long.Refused n) = ap (λ (x : Refusal). long.Refused (record { refusal = x; index = n .index })) (number-back (n .refusal))
-
-pub sizeSaid-injective : (running : ℕ) {x y : ListLength} → sizeSaid running x ≡ sizeSaid running y → x ≡ y
-sizeSaid-injective running = injective (sizeSaid running) backSized (sameSize running)
+use Rattle.compose.specs.Written.{wroteList}
+use Rattle.compose.specs.declared.WroteList.{WroteList}
+use Rattle.compose.specs.declared.WroteList.the-variants as wrote
 
 backWrote : smf.ListAnswer → ℕ → WroteList
 backWrote (smf.wrote n) running = wrote.Length (record { length = n; running = record { status = running } })

@@ -1,5 +1,2 @@
-pub mod Most
-pub mod Measuring
 pub mod Going
-pub mod Sizes
 pub mod Identical

@@ -15,8 +15,8 @@ use number::rules::Rules;
 use number::rules::Running;
 use rows::event_row;
 use rows_back::row_event;
-use writing::write::WroteEvent;
-use writing::write::write_event;
+use writing::WroteEvent;
+use writing::write_event;
 
 // The event at a place, from a running status: its row, the bytes used and the running status after it.
 // A refusal leaves the row as it came, uses no byte, and says the running status that it leaves.

@@ -15,7 +15,8 @@ use Rattle.event.specs.Event.{eventOf}
 use Rattle.track.specs.List.{capacity}
 use Rattle.track.specs.Read.{stopOf, listRead}
 use Rattle.track.specs.declared.read.ReadList.{ReadList}
-use Rattle.sheet.specs.Sheet.{sheetOf, sheetList}
+use Rattle.sheet.specs.Sheet.{sheetOf}
+use Rattle.sheet_back.specs.SheetList.{sheetList}
 use Rattle.loader_events.specs.Events.{anyRules}
 use Rattle.loader_lists.specs.Lists.{stopNumber, sheetPut, sheetSize, sheetWritten}
 

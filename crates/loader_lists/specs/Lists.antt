@@ -6,7 +6,8 @@ use Rattle.smf.specs.Running.{isRunning}
 use Rattle.smf.specs.Write.{Written, put}
 use Rattle.smf.specs.Lists.{Stop, ended, full, stopped, ListAt, listAt, Held, ListAnswer, wrote, refusesAt, ListSize, unsized, sizeList, ListWritten, listLeft, writeList}
 use Rattle.track.specs.List.{capacity}
-use Rattle.sheet.specs.Sheet.{sheetOf, sheetList}
+use Rattle.sheet.specs.Sheet.{sheetOf}
+use Rattle.sheet_back.specs.SheetList.{sheetList}
 use Rattle.loader.specs.Entry.{flagged}
 use Rattle.loader_events.specs.Events.{anyRules}
 

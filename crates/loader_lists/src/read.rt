@@ -8,7 +8,7 @@ ghost use Rattle.loader_lists.specs.Lists.{stopNumber, listGiven, sheetP
 use loader::rules;
 use number::rules::Running;
 use number::varlen::Written;
-use sheet::to_rows::list_rows;
+use sheet::list_rows;
 use track::list::EventList;
 use track::read::Stop;
 

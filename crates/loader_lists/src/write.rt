@@ -1,17 +1,18 @@
 // Measuring and writing a sheet's list. Its count is looked at before its cells, and both before its events.
 ghost use mathlib.Core.Path.{_≡_};
-ghost use Rattle.compose.specs.Lengths.{sizeSaid, wroteList};
+ghost use Rattle.lengths.specs.Lengths.{sizeSaid};
+ghost use Rattle.compose.specs.Written.{wroteList};
 ghost use Rattle.loader_lists.specs.Lists.{sheetSize, sheetWritten, numberAnswered, lengthLeft, indexLeft};
-use compose::length::ListLength;
-use compose::length::ListRefused;
-use compose::length::list_length;
-use compose::write::WroteList;
-use compose::write::write_list;
+use compose::WroteList;
+use compose::write_list;
+use lengths::ListLength;
+use lengths::ListRefused;
+use lengths::list_length;
 use loader_events::any_rules;
 use number::rules::Running;
 use refusal::Refusal;
-use sheet::from_rows::Rows;
-use sheet::from_rows::rows_list;
+use sheet_back::Rows;
+use sheet_back::rows_list;
 
 fn sheet_length(rows: &[u64], count: usize, payload: &[u8], running: Running) -> ListLength
     ensures { λ r. ⌜ sizeSaid (running .status) r ≡ sheetSize (running .status) (now (payload .entry)) (now (rows .entry)) count ⌝ }

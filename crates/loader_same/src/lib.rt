@@ -3,13 +3,13 @@ ghost use mathlib.Core.Path.{_≡_};
 ghost use Rattle.smf.specs.Event.{Same};
 ghost use Rattle.track.specs.List.{capacity};
 ghost use Rattle.rows_back.specs.RowEvent.{rowEvent};
-ghost use Rattle.sheet.specs.Sheet.{sheetList};
+ghost use Rattle.sheet_back.specs.SheetList.{sheetList};
 ghost use Rattle.loader_same.specs.Same.{yes, Told, SheetsTold};
 use rows_back::row_event;
-use same::events::same_event;
-use same::lists::same_list;
-use sheet::from_rows::Rows;
-use sheet::from_rows::rows_list;
+use same::same_event;
+use same_lists::same_list;
+use sheet_back::Rows;
+use sheet_back::rows_list;
 
 // Yes 1, no 0.
 fn said(told: bool) -> u8

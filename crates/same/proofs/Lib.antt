@@ -2,4 +2,3 @@ pub mod Telling
 pub mod Loads
 pub mod Identical
 pub mod WayBack
-pub mod Agreeing

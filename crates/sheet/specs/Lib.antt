@@ -1,4 +1,2 @@
--- Lists as rows of numbers, and what the answers of this crate say.
+-- Lists as rows of numbers.
 pub mod Sheet
-pub mod Taken
-pub mod Kept

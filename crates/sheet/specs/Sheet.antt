@@ -1,14 +1,9 @@
 -- A list of events as rows of numbers, by the layout of `Rattle.rows.specs.Rows`: ten cells an event, one row behind the other.
 use mathlib.Core.List.{List, [], _∷_, _++_}
-use Prim.Native.Nat.{ℕ, zero, suc, _*_}
-use lib.Dec.{leb}
-use lib.ListN.{length, take, drop}
-use Rattle.smf.specs.Answer.{pick, Answer, gives, refuses}
+use Prim.Native.Nat.{ℕ}
 use Rattle.smf.specs.Place.{Span}
 use Rattle.smf.specs.Event.{Event}
-use Rattle.smf.specs.Lists.{Held, holding}
 use Rattle.rows.specs.Rows.{eventRow}
-use Rattle.rows_back.specs.RowEvent.{rowEvent}
 
 -- how many cells a row has
 abbrev pub width : ℕ
@@ -18,14 +13,3 @@ width = 10
 unfoldable pub sheetOf : List (Event Span) → List ℕ
 sheetOf [] = []
 sheetOf (e ∷ es) = eventRow e ++ sheetOf es
-
--- the events of so many rows, which are the first of the cells
-unfoldable pub sheetEvents : ℕ → List ℕ → List (Event Span)
-sheetEvents zero cells = []
-sheetEvents (suc n) cells = rowEvent (take width cells) ∷ sheetEvents n (drop width cells)
-
--- the list of so many rows; document 01: 21 where the count is above what a list holds, and 20, no room, where the cells are too few for it
-unfoldable pub sheetList : ℕ → List ℕ → ℕ → Answer Held
-sheetList most cells count =
-    pick (leb count most) (pick (leb (count * width) (length cells)) (gives (holding most (sheetEvents count cells))) (refuses 20))
-    (refuses 21)

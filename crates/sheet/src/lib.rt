@@ -1,3 +1,73 @@
-// A list of events as rows of numbers, ten cells an event, one row behind the other: what the loader's callers hold.
-pub mod from_rows;
-pub mod to_rows;
+// The rows of a list's events, put into lent cells from the first on.
+ghost use mathlib.Core.Path.{_≡_};
+ghost use mathlib.Core.List.{map};
+ghost use Prim.Native.Nat.{_+_, _*_, _≤_, min};
+ghost use lib.ListN.{length, take};
+ghost use Rattle.smf.specs.Write.{over, put};
+ghost use Rattle.number.specs.Varlen.{writeLeft};
+ghost use Rattle.event.specs.Event.{eventOf};
+ghost use Rattle.track.specs.List.{capacity};
+ghost use Rattle.sheet.specs.Sheet.{width, sheetOf};
+use number::varlen::Written;
+use refusal::Refusal;
+use rows::event_row;
+use track::list::CAPACITY;
+use track::list::EventList;
+
+// How many cells a row has.
+pub const WIDTH: usize = 10;
+
+fn put_row(rows: &mut [u64], at: usize, row: [u64; 10])
+    requires { ⌜ at + width ≤ length (now rows) ⌝ }
+    ensures { λ r. ⌜ now (rows .exit) ≡ over row (now (rows .entry)) at ⌝ }
+{
+    rows[at] = row[0];
+    rows[at + 1] = row[1];
+    rows[at + 2] = row[2];
+    rows[at + 3] = row[3];
+    rows[at + 4] = row[4];
+    rows[at + 5] = row[5];
+    rows[at + 6] = row[6];
+    rows[at + 7] = row[7];
+    rows[at + 8] = row[8];
+    rows[at + 9] = row[9];
+}
+
+// One row behind the other, of cells that are enough.
+fn put_rows(list: EventList, count: usize, rows: &mut [u64])
+    requires { ⌜ (count ≤ capacity) × (count * width ≤ length (now rows)) ⌝ }
+    ensures { λ r. ⌜ now (rows .exit) ≡ over (sheetOf (take count (map eventOf (list .records)))) (now (rows .entry)) 0 ⌝ }
+{
+    let mut at: usize = 0;
+    let mut i: usize = 0;
+    while i < count {
+        let event = list.records[i];
+        let kind = event.kind;
+        put_row(rows, at, event_row(event.delta.0, kind));
+        at += WIDTH;
+        i += 1;
+    }
+}
+
+// How many events there are to a count, which may be above what a list holds.
+fn counted(count: usize) -> usize
+    ensures { λ r. ⌜ r ≡ min count capacity ⌝ }
+{
+    if CAPACITY < count {
+        return CAPACITY;
+    }
+    count
+}
+
+// The events that count, of those that the list holds. Cells that are too few stay as they came.
+pub fn list_rows(list: EventList, rows: &mut [u64]) -> Written
+    ensures { λ r. ⌜ writeLeft r (now (rows .exit)) ≡ put (sheetOf (take (list .count) (map eventOf (list .records)))) (now (rows .entry)) 0 ⌝ }
+{
+    let count = counted(list.count);
+    let cells = count * WIDTH;
+    if rows.len() < cells {
+        return Written::Refused(Refusal::NoRoom);
+    }
+    put_rows(list, count, rows);
+    Written::Next(cells)
+}

@@ -12,6 +12,11 @@ pub by-test {ℓ} : {G : Type ℓ} (t : Bool) → (t ≡ true → G) → (t ≡ 
 by-test true f g = f refl
 by-test false f g = g refl
 
+-- by what an answer is
+pub by-answer {ℓ} : {A : Type 0} {G : Type ℓ} (a : Answer A) → ((x : A) → a ≡ gives x → G) → ((n : ℕ) → a ≡ refuses n → G) → G
+by-answer (gives x) f g = f x refl
+by-answer (refuses n) f g = g n refl
+
 pub by-lt {ℓ} : {G : Type ℓ} (a b : ℕ) → (a < b → G) → (b ≤ a → G) → G
 by-lt a b f g = by-test (ltb a b) (λ e. f (ltb-true a b e)) (λ e. g (ltb-false a b e))
 

@@ -5,14 +5,10 @@ use Prim.Native.Nat.{ℕ}
 use Rattle.smf.specs.Answer.{Answer, gives, refuses}
 use Rattle.smf.specs.Event.{EventWritten}
 use Rattle.refusal.proofs.RefusalNumbers.{refusalOf, number-back}
-use Rattle.writing.specs.Put.{EventPut, past, putLeft}
+use Rattle.put.specs.Put.{past}
 use Rattle.writing.specs.Write.{wroteEvent}
-use Rattle.writing.specs.declared.put.Past.{Past}
-use Rattle.writing.specs.declared.write.WroteEvent.{WroteEvent}
-use Rattle.writing.specs.declared.write.WroteEvent.the-variants as wrote
-
-pub putLeft-injective : {x y : Past} {b d : List ℕ} → putLeft x b ≡ putLeft y d → (x ≡ y) × (b ≡ d)
-putLeft-injective e = (ap (λ (p : EventPut). past (p .next) (p .running)) e, ap (λ (p : EventPut). p .buffer) e)
+use Rattle.writing.specs.declared.WroteEvent.{WroteEvent}
+use Rattle.writing.specs.declared.WroteEvent.the-variants as wrote
 
 back-wrote : Answer ℕ → ℕ → WroteEvent
 back-wrote (gives next) running = wrote.Next (past next running)

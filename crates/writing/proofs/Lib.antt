@@ -1,5 +1,2 @@
-pub mod Storing
-pub mod Putting
 pub mod Wrote
-pub mod Composed
 pub mod Identical

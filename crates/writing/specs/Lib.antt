@@ -1,4 +1,2 @@
--- What the values and the answers of this crate say, in the paper's terms.
-pub mod Store
-pub mod Put
+-- What the answers of this crate say, in the paper's terms.
 pub mod Write

@@ -4,8 +4,8 @@ use Prim.Native.Nat.{ℕ}
 use Rattle.smf.specs.Answer.{gives, refuses}
 use Rattle.smf.specs.Event.{EventWritten}
 use Rattle.refusal.specs.Refusal.{numberOf}
-use Rattle.writing.specs.declared.write.WroteEvent.{WroteEvent}
-use Rattle.writing.specs.declared.write.WroteEvent.the-variants.{Next, Refused}
+use Rattle.writing.specs.declared.WroteEvent.{WroteEvent}
+use Rattle.writing.specs.declared.WroteEvent.the-variants.{Next, Refused}
 
 -- a refused write leaves the running status as it was given
 abbrev pub wroteEvent : ℕ → WroteEvent → List ℕ → EventWritten

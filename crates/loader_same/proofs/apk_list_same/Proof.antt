@@ -1,5 +1,5 @@
 -- `apk_list_same` meets its contract: both sheets are lists, or one is none.
-use Rattle.sheet.proofs.Rows.{is-list, is-none}
+use Rattle.sheet_back.proofs.Known.{is-list, is-none}
 use Rattle.loader_same.proofs.Told.{first-none, second-none, both-lists}
 use borrow.Author.Needs.{needs}
 use Rattle.loader_same.proofs.apk_list_same.Statement.{statement}

@@ -6,7 +6,7 @@ use Rattle.smf.specs.Answer.{Rules}
 use Rattle.smf.specs.Lists.{sizeList}
 use Rattle.event.specs.Event.{eventOf}
 use Rattle.track.specs.List.{capacity}
-use Rattle.sheet.proofs.Rows.{is-list, is-none}
+use Rattle.sheet_back.proofs.Known.{is-list, is-none}
 use Rattle.loader_lists.proofs.Sheets.{size-invalid, size-none, size-list}
 use borrow.Author.Needs.{needs}
 use Rattle.loader_lists.proofs.write.sheet_length.Statement.{statement}

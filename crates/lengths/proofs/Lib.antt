@@ -1,0 +1,4 @@
+pub mod Most
+pub mod Measuring
+pub mod Sizes
+pub mod Identical

@@ -1,0 +1,4 @@
+pub mod Storing
+pub mod Putting
+pub mod Composed
+pub mod Identical

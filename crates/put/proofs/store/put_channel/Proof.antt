@@ -1,0 +1,38 @@
+-- `put_channel` meets its contract: the status, and the data behind it.
+use mathlib.Core.Path.{_≡_, sym, ap, _∙_}
+use Prim.Native.Nat.{_+_, _≤_}
+use native.Mathlib.Omega.{arith}
+use borrow.Author.Needs.{needs}
+use lib.ListN.{length, length-append}
+use Rattle.measure.specs.Channel.{statusBytes, dataBytes}
+use Rattle.measure.proofs.ChannelBytes.{channel-wire}
+use Rattle.put.proofs.Storing.{over-both, stored-length}
+use Rattle.put.proofs.store.put_channel.Statement.{statement}
+use Rattle.put.proofs.store.put_channel.Tie as tie
+
+-- there is room for both
+room : (c : tie.Start) → c .args .at + (length (statusBytes (c .args .running .status) (c .args .bytes .status)) + length (dataBytes (c .args .bytes))) ≤ length (c .args .out .now)
+room c = rw (channel-wire, length-append) at (c .pre)
+
+put-status-requires : tie.Need-put-status-requires
+put-status-requires c κs = omega (arith, room (c .before .before))
+
+put-data-requires : tie.Need-put-data-requires
+put-data-requires c κs =
+    let d = c .before .before .before .before .before .before in
+    let s = c .before .before .before .put-status .ensures in
+    omega (arith, room d, s .place, stored-length s (omega (arith, room d)))
+
+same-length : tie.Need-same-length
+same-length c = search needs
+
+returns : tie.Need-returns
+returns c =
+    let d = c .before .before .before .before .before .before .before .before .before in
+    let s = c .before .before .before .before .before .before .put-status .ensures in
+    rw (channel-wire (d .args .running .status) (d .args .bytes))
+    (c .before .before .put-data .ensures ∙ over-both (dataBytes (d .args .bytes)) s (omega (arith, room d)))
+
+pub put-channel-spec : {M : Type 1} → statement M
+put-channel-spec =
+    tie.close (tie.spec put-status-requires put-data-requires same-length returns)

@@ -1,0 +1,106 @@
+-- What the loop that takes rows as a list keeps: the events so far stand in front, and behind them what an empty list holds.
+use mathlib.Core.Path.{_≡_, refl, sym, ap, _∙_}
+use mathlib.Core.List.{List, [], _∷_, _++_, map, append-assoc}
+use Prim.Native.Nat.{ℕ, zero, suc, _+_, _-_, _*_, _≤_, _<_}
+use native.Mathlib.Omega.{arith}
+use native.Mathlib.Numerals.{add-one}
+use lib.ListN.{length, take, drop, set, replicate, length-append, length-map, length-replicate}
+use lib.Seq.{set-at, drop-drop}
+use borrow.Author.Tests.{le-leb, lt-leb}
+use Rattle.smf.specs.Answer.{Answer, gives, refuses}
+use Rattle.smf.specs.Place.{Span}
+use Rattle.smf.specs.Event as smf
+use Rattle.smf.specs.Lists.{filler, Held, holding}
+use Rattle.event.specs.Event.{eventOf}
+use Rattle.event.specs.declared.track_event.TrackEvent.{TrackEvent}
+use Rattle.track.proofs.Held.{map-set}
+use Rattle.rows_back.specs.RowEvent.{rowEvent}
+use Rattle.sheet.specs.Sheet.{width}
+use Rattle.sheet_back.specs.SheetList.{sheetEvents, sheetList}
+use Rattle.sheet_back.specs.Taken.{Taken, taken}
+
+pub events-length : (n : ℕ) (cells : List ℕ) → length (sheetEvents n cells) ≡ n
+unfolding sheetEvents
+events-length zero cells = refl
+events-length (suc n) cells = ap suc (events-length n (drop width cells))
+
+-- one row more, behind
+events-next : (n : ℕ) (cells : List ℕ) → sheetEvents (suc n) cells ≡ sheetEvents n cells ++ (rowEvent (take width (drop (n * width) cells)) ∷ [])
+unfolding sheetEvents
+events-next zero cells = refl
+events-next (suc n) cells =
+    let on : width + n * width ≡ suc n * width = omega arith in
+    ap (λ (l : List (smf.Event Span)). rowEvent (take width cells) ∷ l)
+    (events-next n (drop width cells)
+    ∙ ap (λ (l : List ℕ). sheetEvents n (drop width cells) ++ (rowEvent (take width l) ∷ [])) (drop-drop (n * width) width cells ∙ ap (λ (k : ℕ). drop k cells) on))
+
+module _ (cap : ℕ) (cells : List ℕ) where
+  pub record Lifting (xs : List TrackEvent) (at i : ℕ) : Type 0 where
+    pub within : i ≤ cap
+    pub stands : at ≡ i * width
+    pub held : map eventOf xs ≡ sheetEvents i cells ++ replicate (cap - i) filler
+
+  sub-zero : cap ≡ cap - 0
+  sub-zero = omega arith
+
+  pub lifting-first : (xs : List TrackEvent) (n : ℕ) → record { records = map eventOf xs; count = n } ≡ holding cap [] → Lifting xs 0 0
+  unfolding holding sheetEvents
+  lifting-first xs n e = record { within = omega arith; stands = refl; held = ap (λ (h : Held). h .records) e }
+
+  module _ {xs : List TrackEvent} {at i : ℕ} (g : Lifting xs at i) where
+    pub lifting-long : length xs ≡ cap
+    lifting-long =
+        sym (length-map xs eventOf)
+        ∙ ap length (g .held)
+        ∙ length-append (sheetEvents i cells) (replicate (cap - i) filler)
+        ∙ omega (arith, events-length i cells, length-replicate (cap - i) filler, g .within)
+
+    pub lifting-more : (row : List ℕ) (e : TrackEvent) → i < cap → row ≡ take width (drop at cells) → eventOf e ≡ rowEvent row → Lifting (set xs i e) (at + width) (i + 1)
+    lifting-more row e room r f =
+        let left : cap - i ≡ suc (cap - (i + 1)) = omega arith in
+        let rest = replicate (cap - (i + 1)) filler in
+        let there : eventOf e ≡ rowEvent (take width (drop (i * width) cells)) = f ∙ ap rowEvent (r ∙ ap (λ (n : ℕ). take width (drop n cells)) (g .stands)) in
+        record {
+          within = omega arith;
+          stands = omega (arith, g .stands);
+          held =
+              map-set eventOf xs i e
+              ∙ ap (λ (l : List (smf.Event Span)). set l i (eventOf e)) (g .held ∙ ap (λ (k : ℕ). sheetEvents i cells ++ replicate k filler) left)
+              ∙ set-at (sheetEvents i cells) filler rest (eventOf e) i (events-length i cells)
+              ∙ ap (λ (x : smf.Event Span). sheetEvents i cells ++ (x ∷ rest)) there
+              ∙ sym (append-assoc (sheetEvents i cells) (rowEvent (take width (drop (i * width) cells)) ∷ []) rest)
+              ∙ ap (λ (l : List (smf.Event Span)). l ++ rest) (sym (events-next i cells) ∙ ap (λ (k : ℕ). sheetEvents k cells) (sym (add-one i)));
+        }
+
+    pub lifting-last : (count : ℕ) → i ≡ count → record { records = map eventOf xs; count = count } ≡ holding cap (sheetEvents count cells)
+    unfolding holding
+    lifting-last count e = rw (events-length count cells, ← e, ← g .held)
+
+  -- what the count and the cells say
+  module _ (count : ℕ) where
+    pub too-many : cap < count → taken cap (refuses 21) ≡ taken cap (sheetList cap cells count)
+    unfolding sheetList
+    too-many h = rw (lt-leb _ _ h)
+
+    pub too-few : count ≤ cap → length cells < count * width → taken cap (refuses 20) ≡ taken cap (sheetList cap cells count)
+    unfolding sheetList
+    too-few h g = rw (le-leb _ _ h, lt-leb _ _ g)
+
+    pub enough : count ≤ cap → count * width ≤ length cells → (held : Held) → held ≡ holding cap (sheetEvents count cells)
+        → record { list = held; answer = gives tt } ≡ taken cap (sheetList cap cells count)
+    unfolding sheetList
+    enough h g held e = rw (le-leb _ _ h, le-leb _ _ g, e)
+
+-- what an answer says of the rows: their list, or their refusal
+module _ (cap : ℕ) (a : Answer Held) (t : Taken) (e : t ≡ taken cap a) where
+  pub taken-gives : t .answer ≡ gives tt → a ≡ gives (t .list)
+  taken-gives p = by a (ap (λ (x : Taken). x .list) e) (sym p ∙ ap (λ (x : Taken). x .answer) e) where
+    by : (a : Answer Held) → t .list ≡ taken cap a .list → gives tt ≡ taken cap a .answer → a ≡ gives (t .list)
+    by (gives h) q r = ap gives (sym q)
+    by (refuses n) q r = let z : _≡_ {A = ℕ} 0 1 = cc in absurd (omega arith)
+
+  pub taken-refuses : (n : ℕ) → t .answer ≡ refuses n → a ≡ refuses n
+  taken-refuses n p = by a (sym p ∙ ap (λ (x : Taken). x .answer) e) where
+    by : (a : Answer Held) → refuses n ≡ taken cap a .answer → a ≡ refuses n
+    by (gives h) r = let z : _≡_ {A = ℕ} 0 1 = cc in absurd (omega arith)
+    by (refuses m) r = cc

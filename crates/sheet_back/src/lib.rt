@@ -1,0 +1,89 @@
+// Rows back as a list of events.
+ghost use mathlib.Core.Path.{_≡_};
+ghost use Prim.Native.Nat.{_+_, _*_, _≤_};
+ghost use lib.ListN.{length, take, drop};
+ghost use Rattle.smf.specs.Answer.{refuses};
+ghost use Rattle.smf.specs.Lists.{holding};
+ghost use Rattle.refusal.specs.Refusal.{numberOf};
+ghost use Rattle.track.specs.List.{capacity, heldOf};
+ghost use Rattle.sheet.specs.Sheet.{width};
+ghost use Rattle.sheet_back.specs.SheetList.{sheetEvents, sheetList};
+ghost use Rattle.sheet_back.specs.Taken.{taken, rowsTaken};
+use refusal::Refusal;
+use rows_back::row_event;
+use sheet::WIDTH;
+use track::list::CAPACITY;
+use track::list::EventList;
+
+// Whether the cells are so many rows.
+pub enum Rows {
+    Enough,
+    Refused(Refusal),
+}
+
+// The list, which is empty where the rows were refused.
+pub struct RowsList {
+    pub list: EventList,
+    pub rows: Rows,
+}
+
+fn row_at(rows: &[u64], at: usize) -> [u64; 10]
+    requires { ⌜ at + width ≤ length (now rows) ⌝ }
+    ensures { λ r. ⌜ r ≡ take width (drop at (now (rows .entry))) ⌝ }
+{
+    [
+        rows[at],
+        rows[at + 1],
+        rows[at + 2],
+        rows[at + 3],
+        rows[at + 4],
+        rows[at + 5],
+        rows[at + 6],
+        rows[at + 7],
+        rows[at + 8],
+        rows[at + 9],
+    ]
+}
+
+// One event behind the other, of cells that are enough.
+fn take_rows(rows: &[u64], count: usize) -> EventList
+    requires { ⌜ (count ≤ capacity) × (count * width ≤ length (now rows)) ⌝ }
+    ensures { λ r. ⌜ heldOf r ≡ holding capacity (sheetEvents count (now (rows .entry))) ⌝ }
+{
+    let mut list = EventList::new();
+    let mut at: usize = 0;
+    let mut i: usize = 0;
+    while i < count {
+        let event = row_event(row_at(rows, at));
+        list.records[i] = event;
+        at += WIDTH;
+        i += 1;
+    }
+    list.count = count;
+    list
+}
+
+fn refused(refusal: Refusal) -> RowsList
+    ensures { λ r. ⌜ rowsTaken r ≡ taken capacity (refuses (numberOf refusal)) ⌝ }
+{
+    RowsList {
+        list: EventList::new(),
+        rows: Rows::Refused(refusal),
+    }
+}
+
+// The list of so many rows, whose first cells they are.
+pub fn rows_list(rows: &[u64], count: usize) -> RowsList
+    ensures { λ r. ⌜ rowsTaken r ≡ taken capacity (sheetList capacity (now (rows .entry)) count) ⌝ }
+{
+    if CAPACITY < count {
+        return refused(Refusal::TooManyEvents);
+    }
+    if rows.len() < count * WIDTH {
+        return refused(Refusal::NoRoom);
+    }
+    RowsList {
+        list: take_rows(rows, count),
+        rows: Rows::Enough,
+    }
+}
