@@ -2,7 +2,7 @@
 use crate::line::CELLS;
 
 // The most bytes that a line has, given or written.
-pub const BYTES: usize = 2048;
+pub const BYTES: usize = 1024;
 
 // The cells of a list's rows: 128 of ten.
 pub const ROWS: usize = 1280;

@@ -2,7 +2,7 @@
 // and the numbers answered. Numbers and bytes are hexadecimal, each behind a blank.
 
 // The most numbers of a line.
-pub const CELLS: usize = 4096;
+pub const CELLS: usize = 2048;
 
 // A line as far as it was read: its first byte, how many numbers there are, where the bytes begin and where the answer.
 pub struct Line {

@@ -1,5 +1,5 @@
 // The answers that the Rust gave, in the lines of standard input: each is asked of the port, and the answers are
-// compared. A line begins with a letter, with # where it is a remark, with - where it names the group of lines behind it.
+// compared. A line begins with a letter, with # where it is a remark, with - where it names the lines behind it.
 use crate::cells::BYTES;
 use crate::cells::bytes_of;
 use crate::cells::part;

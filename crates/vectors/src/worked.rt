@@ -16,11 +16,9 @@ const TWO: [u8; 7] = [0x00, 0x90, 0x3C, 0x40, 0x60, 0x3C, 0x00];
 
 // No bytes at all, as an event.
 fn nothing(how: &[u8], rules: Rules) {
-    let bytes = TWO;
-    let end: usize = 7;
     word(b"no bytes as an event");
     word(how);
-    match TrackEvent::read(&bytes[end..], 0, Running { status: 0 }, rules) {
+    match TrackEvent::read(b"", 0, Running { status: 0 }, rules) {
         ReadEvent::Refused(n) => {
             let refusal = n.refusal;
             refused(refusal.number());
