@@ -23,7 +23,7 @@
  * What is proved. Of each entry, for all numbers and bytes that it can be given: it ends, it reads and writes within
  * the slices only, its answer is the one that its definition gives, and so is what each lent value and each lent byte
  * holds at the end, after a refusal too. The definition is named with each entry; the definitions stand in
- * crates/smf/specs and in the specs of the crates rows, rows_back, sheet and loader to loader_same, and are written
+ * crates/smf/specs and in the specs of the crates rows to sheet_back and loader to loader_same, and are written
  * from Standard MIDI Files 1.0 and document 01, not from the code. Proved of the definitions: what is written is read back, strictly
  * and leniently, whatever follows it; every event that is read is legal; no bytes that are read strictly as an event
  * are shorter than those that are written for it. Not proved, but compared in runs: that midly 0.5.3 answers alike

@@ -13,7 +13,10 @@ mod numbers;
 mod port;
 mod random;
 mod refusal;
+mod reads;
 mod report;
+mod shrink;
+mod strings;
 mod vectors;
 mod writing;
 

@@ -1,18 +1,21 @@
 //! One event, read: `TrackEvent::read` from every valid running status.
 
 use super::{
+    kinds::{self, KINDS},
     port,
     random::Random,
     refusal,
     report::{Bytes, Entry},
+    shrink,
+    strings::Strings,
 };
 use crate::{
     event::{MetaMessage, MidiMessage, TrackEvent, TrackEventKind},
     prelude::*,
 };
 
-/// Running statuses of each kind: none, the ends, one and two data bytes.
-const FEW: [u8; 5] = [0x00, 0x80, 0x90, 0xC5, 0xEF];
+/// A running status of each kind, and none.
+const EACH: [u8; 8] = [0x00, 0x80, 0x90, 0xA7, 0xBF, 0xC5, 0xD0, 0xEF];
 /// Around the ends of the fields' ranges.
 const FIELDS: [u8; 19] = [0, 1, 2, 15, 16, 22, 23, 24, 28, 29, 30, 59, 60, 61, 99, 100, 127, 128, 255];
 const STATUSES: [u8; 8] = [0xFF, 0xF0, 0xF7, 0x90, 0xC0, 0xE3, 0xF8, 0xF1];
@@ -20,7 +23,11 @@ const TYPES: [u8; 13] = [0x00, 0x01, 0x08, 0x09, 0x20, 0x21, 0x2F, 0x51, 0x54, 0
 const LENGTHS: [u8; 9] = [0, 1, 2, 3, 4, 5, 6, 0x7F, 0x80];
 
 struct Events {
-    read: Entry,
+    short: Entry,
+    status: Entry,
+    types: Entry,
+    sample: Entry,
+    strings: Entry,
 }
 
 pub fn run(mut random: Random, full: bool) -> Vec<Entry> {
@@ -29,15 +36,22 @@ pub fn run(mut random: Random, full: bool) -> Vec<Entry> {
     } else {
         &[0, 4, 5, 6, 7, 8, 9, 10, 13, 14]
     };
-    let mut it = Events { read: Entry::new("apk_event_read", due) };
+    let mut it = Events {
+        short: Entry::new("apk_event_read, up to three bytes", &[0, 4, 5, 6, 7, 8, 9]).counting(&KINDS),
+        status: Entry::new("apk_event_read, a status and every two bytes behind it", &[0, 5, 6, 7, 9]).counting(&KINDS),
+        types: Entry::new("apk_event_read, every meta type", &[0, 4, 10, 13, 14]).counting(&KINDS),
+        sample: Entry::new("apk_event_read, up to 23 bytes at places", due).counting(&KINDS),
+        strings: Entry::new("apk_event_read, up to 600 bytes", due).of_kinds(&KINDS),
+    };
     let every: Vec<u8> = Some(0).into_iter().chain(0x80..=0xEF).collect();
     every.iter().for_each(|&running| it.two_bytes(running));
     let runnings = if full { &every[..] } else { &[0x00, 0x90][..] };
     runnings.iter().for_each(|&running| it.three_bytes(running));
-    it.every_status();
-    it.every_type(&mut random, if full { 2000 } else { 60 });
-    it.sample(&mut random, if full { 100_000_000 } else { 6_000_000 });
-    vec![it.read]
+    it.every_status(full);
+    it.every_type(&mut random, if full { 4000 } else { 60 });
+    it.sample(&mut random, if full { 100_000_000 } else { 3_000_000 });
+    it.strings(&mut random, if full { 100_000_000 } else { 2_000_000 });
+    vec![it.short, it.status, it.types, it.sample, it.strings]
 }
 
 // ---- what is compared
@@ -45,10 +59,10 @@ pub fn run(mut random: Random, full: bool) -> Vec<Entry> {
 impl Events {
     /// Every string of up to two bytes.
     fn two_bytes(&mut self, running: u8) {
-        self.one(&[], 0, running);
+        one(&mut self.short, &[], 0, running);
         for a in 0..=255 {
-            self.one(&[a], 0, running);
-            (0..=255).for_each(|b| self.one(&[a, b], 0, running));
+            one(&mut self.short, &[a], 0, running);
+            (0..=255).for_each(|b| one(&mut self.short, &[a, b], 0, running));
         }
     }
 
@@ -56,17 +70,24 @@ impl Events {
     fn three_bytes(&mut self, running: u8) {
         for a in 0..=255 {
             for b in 0..=255 {
-                (0..=255).for_each(|c| self.one(&[a, b, c], 0, running));
+                (0..=255).for_each(|c| one(&mut self.short, &[a, b, c], 0, running));
             }
         }
     }
 
-    /// Every status, and data bytes under running status, with every two bytes behind it.
-    fn every_status(&mut self) {
-        for status in 0x70..=0xFF {
+    /// The delta 0 with every three bytes behind it, from a running status of each kind and from none; the short form
+    /// has every status and a few data bytes, each from one of them.
+    fn every_status(&mut self, full: bool) {
+        let first = if full { 0x00 } else { 0x70 };
+        for status in first..=0xFF {
             for a in 0..=255 {
                 for b in 0..=255u8 {
-                    self.one(&[0, status, a, b], 0, FEW[(a ^ b) as usize % FEW.len()]);
+                    let bytes = [0, status, a, b];
+                    if full {
+                        EACH.iter().for_each(|&running| one(&mut self.status, &bytes, 0, running));
+                    } else {
+                        one(&mut self.status, &bytes, 0, EACH[(a ^ b) as usize % EACH.len()]);
+                    }
                 }
             }
         }
@@ -77,12 +98,13 @@ impl Events {
         for kind in 0..=255 {
             for length in 0..9 {
                 for _ in 0..rounds {
-                    let mut bytes = vec![0, 0xFF, kind, length];
-                    (0..length).for_each(|_| bytes.push(random.of(&FIELDS)));
-                    let cut = random.below(bytes.len() + 1);
-                    self.one(&bytes[..cut], 0, random.of(&FEW));
-                    bytes.push(0x90);
-                    self.one(&bytes, 0, random.of(&FEW));
+                    let mut bytes = [0x90; 13];
+                    bytes[..4].copy_from_slice(&[0, 0xFF, kind, length]);
+                    let end = 4 + length as usize;
+                    bytes[4..end].iter_mut().for_each(|byte| *byte = random.of(&FIELDS));
+                    let cut = random.below(end + 1);
+                    one(&mut self.types, &bytes[..cut], 0, random.of(&EACH));
+                    one(&mut self.types, &bytes[..=end], 0, random.of(&EACH));
                 }
             }
         }
@@ -90,8 +112,10 @@ impl Events {
 
     /// Strings of up to 23 bytes, half of them events that are nearly right, at places inside and past the end.
     fn sample(&mut self, random: &mut Random, count: u64) {
+        let mut whole = [0; 23];
         for _ in 0..count {
-            let mut bytes: Vec<u8> = (0..random.below(24)).map(|_| random.byte()).collect();
+            let bytes = &mut whole[..random.below(24)];
+            bytes.iter_mut().for_each(|byte| *byte = random.byte());
             if bytes.len() > 3 && random.below(2) == 0 {
                 bytes[0] &= 0x7F;
                 bytes[1] = random.of(&STATUSES);
@@ -99,15 +123,51 @@ impl Events {
                 bytes[3] = random.of(&LENGTHS);
             }
             let at = random.of(&[0, 0, 0, 1, 2, 30]);
-            self.one(&bytes, at, random.of(&FEW));
+            one(&mut self.sample, bytes, at, random.of(&EACH));
         }
     }
 
-    fn one(&mut self, bytes: &[u8], at: usize, running: u8) {
-        let rust = rust(bytes, at, running);
-        let port = port::event_read(bytes, at, running);
-        self.read.compare(rust, port, bytes.len(), || format!("{:?} at {} running {:02X}", Bytes(bytes), at, running));
+    /// Strings of up to 600 bytes, one of four at a place inside.
+    fn strings(&mut self, random: &mut Random, count: u64) {
+        let mut strings = Strings::new(random);
+        for _ in 0..count {
+            let (bytes, running) = strings.next(random);
+            let at = if random.below(4) == 0 { random.below(bytes.len() + 1) } else { 0 };
+            one(&mut self.strings, bytes, at, running);
+        }
     }
+}
+
+fn one(entry: &mut Entry, bytes: &[u8], at: usize, running: u8) {
+    let (rust, port) = asked(bytes, at, running);
+    if let Some(row) = &(rust.1).0 {
+        entry.of_kind(kinds::of(row));
+    }
+    let answers = (rust.0, port.0);
+    if entry.compare(rust, port, bytes.len(), || told(bytes, at, running)) && entry.is_new(answers) {
+        smaller(entry, bytes, at, running);
+    }
+}
+
+/// Shows a smaller string that has the same two answers and still differs: from its first byte on, if it can be.
+#[cold]
+fn smaller(entry: &mut Entry, bytes: &[u8], at: usize, running: u8) {
+    let answers = |(rust, port): (Answer, Answer)| Some((rust.0, port.0)).filter(|_| rust != port);
+    let whole = answers(asked(bytes, at, running));
+    let behind = bytes.get(at..).unwrap_or(&[]);
+    let (bytes, at) = if answers(asked(behind, 0, running)) == whole { (behind, 0) } else { (bytes, at) };
+    let least = shrink::bytes(bytes, |bytes| answers(asked(bytes, at, running)) == whole);
+    let (rust, port) = asked(&least, at, running);
+    entry.show(rust, port, least.len(), || told(&least, at, running));
+}
+
+/// What the Rust and the port answer.
+fn asked(bytes: &[u8], at: usize, running: u8) -> (Answer, Answer) {
+    (rust(bytes, at, running), port::event_read(bytes, at, running))
+}
+
+fn told(bytes: &[u8], at: usize, running: u8) -> String {
+    format!("{:?} at {} running {:02X}", Bytes(bytes), at, running)
 }
 
 // ---- what the Rust answers

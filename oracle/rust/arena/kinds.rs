@@ -19,6 +19,27 @@ pub fn carries(kind: usize) -> bool {
     matches!(kind, 7 | 8 | 11..=19 | 27 | 28)
 }
 
+/// Which of `KINDS` a row's event is.
+pub fn of(row: &[u64]) -> usize {
+    match row[1] as usize {
+        kind @ 8..=14 => kind - 8,
+        0xF0 => 7,
+        0xF7 => 8,
+        0x100 => 10 - (row[2] != 0) as usize,
+        kind @ 0x101..=0x109 => kind - 0x101 + 11,
+        0x120 => 20,
+        0x121 => 21,
+        0x12F => 22,
+        0x151 => 23,
+        0x154 => 24,
+        0x158 => 25,
+        0x159 => 26,
+        0x17F => 27,
+        0x200 => 28,
+        kind => panic!("a row of no kind: {:X}", kind),
+    }
+}
+
 /// An event of `KINDS[kind]`, with this payload where it carries one. Half of the channel messages that can go on
 /// under the running status do.
 pub fn event<'a>(kind: usize, running: u8, load: &'a [u8], random: &mut Random) -> TrackEvent<'a> {

@@ -5,32 +5,36 @@ use super::{
     events, kinds, listing,
     port::{self, Laid, Sheet},
     random::Random,
+    reads::{Reads, Rows, CAPACITY, CELL, HOW, WIDTH},
     refusal,
     report::{Bytes, Entry},
+    shrink,
+    strings::Strings,
 };
 use crate::{event::TrackEvent, io::Cursor, prelude::*};
 
-/// How many events a list holds, and how many cells a row has.
-const CAPACITY: usize = 128;
-const WIDTH: usize = 10;
-/// Why the port stopped reading: so many events, and bytes left.
-const FULL: u8 = 255;
 /// Around none, around what a list holds and twice that.
 const COUNTS: [usize; 14] = [0, 1, 2, 3, 126, 127, 128, 129, 130, 254, 255, 256, 257, 300];
-/// What a cell holds before a call. No event's row has it.
-const CELL: u64 = u64::MAX - 0x5A5A;
 /// Around the ends of the fields' widths, and of the integers that hold them.
 const FIELDS: [u64; 14] =
     [15, 16, 24, 31, 60, 100, 127, 128, 255, 256, 65_536, 0x100_0000, 0x1_0000_0000, u64::MAX];
 /// The longest payload, and bytes to take payloads from.
 const LONGEST: usize = 20_000;
 const POOL: usize = 64_000;
+/// Room for the longest list.
+const OUT: usize = 400_000;
 /// As many bytes behind a lent buffer are looked at too.
 const BEHIND: usize = 8;
+/// As many cells stand behind a list's rows.
+const MORE: usize = 11;
 
 struct Lists {
     random: Random,
+    strings: Strings,
+    reads: Reads,
     read: Entry,
+    string: Entry,
+    none: Entry,
     length: Entry,
     write: Entry,
     back: Entry,
@@ -39,43 +43,69 @@ struct Lists {
     same: Entry,
     events_same: Entry,
     pool: &'static [u8],
+    /// The bytes that are read, and the lists that are written and compared, made anew in the same place.
+    bytes: Vec<u8>,
+    list: List,
+    other: List,
+    spoiled: Vec<u64>,
+    back_rows: Vec<u64>,
     /// A lent buffer as it came, as the Rust left it, and as the port did.
     lent: Vec<u8>,
     rust_out: Vec<u8>,
     port_out: Vec<u8>,
 }
 
-pub fn run(mut random: Random, full: bool) -> Vec<Entry> {
-    let due: &[u8] = if cfg!(feature = "strict") {
-        &[0, 1, 2, 3, 4, 5, 6, 7, 8, 9, 10, 11, 12, 13, 14, 20]
-    } else {
-        &[0, 1, 4, 5, 6, 7, 8, 9, 10, 13, 14, 20]
-    };
-    let pool: Vec<u8> = (0..POOL).map(|_| random.byte()).collect();
-    let lent: Vec<u8> = (0..POOL).map(|i| (i * 37) as u8).collect();
-    let mut it = Lists {
-        random,
-        read: Entry::new("apk_list_read", due).of_kinds(&["read to the end", "full", "read on behind a full one"]),
-        length: Entry::new("apk_list_length", &[0]),
-        write: Entry::new("apk_list_write", &[0, 20]).of_kinds(&["empty", "full"]),
-        back: Entry::new("apk_list_read, of what was written", &[0]),
-        illegal: Entry::new("apk_list_write, refused (by document 01's rule)", &[1, 18, 19, 20, 21, 23]),
-        illegal_length: Entry::new("apk_list_length, refused (by document 01's rule)", &[1, 18, 19, 20, 21, 23]),
-        same: Entry::new("apk_list_same", &[0, 20, 21]).of_kinds(&["the same", "not the same"]),
-        events_same: Entry::new("apk_event_same", &[0]).of_kinds(&["the same", "not the same"]),
-        pool: pool.leak(),
-        rust_out: lent.clone(),
-        port_out: lent.clone(),
-        lent,
-    };
+pub fn run(random: Random, full: bool) -> Vec<Entry> {
+    let mut it = Lists::new(random);
     let every: Vec<u8> = Some(0).into_iter().chain(0x80..=0xEF).collect();
-    let rounds = if full { 12_000 } else { 450 };
+    let rounds = if full { 27_000 } else { 450 };
     for _ in 0..rounds {
         every.iter().for_each(|&running| it.reading(running));
         every.iter().for_each(|&running| it.writing(running));
     }
     (0x01..=0x7F).chain(0xF0..=0xFF).for_each(|running| it.no_running_status(running));
-    vec![it.read, it.length, it.write, it.back, it.illegal, it.illegal_length, it.same, it.events_same]
+    (0..if full { 100_000_000 } else { 200_000 }).for_each(|_| it.string());
+    vec![
+        it.read, it.string, it.none, it.length, it.write, it.back, it.illegal, it.illegal_length, it.same,
+        it.events_same,
+    ]
+}
+
+impl Lists {
+    fn new(mut random: Random) -> Lists {
+        let due: &[u8] = if cfg!(feature = "strict") {
+            &[0, 2, 3, 4, 5, 6, 7, 8, 9, 10, 11, 12, 13, 14, 20]
+        } else {
+            &[0, 4, 5, 6, 7, 8, 9, 10, 13, 14, 20]
+        };
+        let pool: Vec<u8> = (0..POOL).map(|_| random.byte()).collect();
+        let lent: Vec<u8> = (0..OUT).map(|i| (i * 37) as u8).collect();
+        let refused = &[1, 18, 19, 20, 21, 23];
+        Lists {
+            strings: Strings::new(&mut random),
+            random,
+            reads: Reads::new(),
+            read: Reads::entry("apk_list_read, up to 300 events", due),
+            string: Reads::entry("apk_list_read, up to 600 bytes", due),
+            none: Entry::new("apk_list_read, from a running status that is none", &[1]),
+            length: Entry::new("apk_list_length", &[0]),
+            write: Entry::new("apk_list_write", &[0, 20]).of_kinds(&["empty lists", "full lists"]),
+            back: Entry::new("apk_list_read, of what was written", &[0]).counting(&HOW).counting(&kinds::KINDS),
+            illegal: Entry::new("apk_list_write, refused (by document 01's rule)", refused),
+            illegal_length: Entry::new("apk_list_length, refused (by document 01's rule)", refused),
+            same: Entry::new("apk_list_same", &[0, 20, 21]).of_kinds(&["the same", "not the same"]),
+            events_same: Entry::new("apk_event_same", &[0]).of_kinds(&["the same", "not the same"]),
+            pool: pool.leak(),
+            bytes: Vec::new(),
+            list: List::default(),
+            other: List::default(),
+            spoiled: Vec::new(),
+            back_rows: vec![0; WIDTH * CAPACITY],
+            rust_out: lent.clone(),
+            port_out: lent.clone(),
+            lent,
+        }
+    }
 }
 
 // ---- what is compared
@@ -108,8 +138,10 @@ impl Lists {
     }
 
     /// The bytes of up to 300 events, legal ones or such as are nearly right; some are damaged or cut.
-    fn bytes(&mut self, running: u8) -> Vec<u8> {
-        let (mut bytes, mut status) = (Vec::new(), running);
+    fn make_bytes(&mut self, running: u8) {
+        let mut bytes = core::mem::take(&mut self.bytes);
+        bytes.clear();
+        let mut status = running;
         let legal = self.random.below(2) == 0;
         for _ in 0..self.count() {
             if legal {
@@ -127,19 +159,21 @@ impl Lists {
         if self.random.below(4) == 0 {
             bytes.truncate(self.random.below(bytes.len() + 1));
         }
-        bytes
+        self.bytes = bytes;
     }
 
-    /// One string of bytes, list by list: what is full is read on behind it.
+    /// Up to 300 events, list by list.
     fn reading(&mut self, running: u8) {
-        let bytes = self.bytes(running);
-        let length = bytes.len();
-        let (mut at, mut running) = (self.random.of(&[0, 0, 0, 0, 0, 0, 1, length, length + 1, usize::MAX]), running);
-        while let Some(next) = self.read_one(&bytes, at, running) {
-            self.read.of_kind("read on behind a full one");
-            at = next.0;
-            running = next.1;
-        }
+        self.make_bytes(running);
+        let length = self.bytes.len();
+        let at = self.random.of(&[0, 0, 0, 0, 0, 0, 1, length, length + 1, usize::MAX]);
+        self.reads.list_by_list(&mut self.read, &mut self.random, &self.bytes, at, running);
+    }
+
+    /// A string of up to 600 bytes, list by list.
+    fn string(&mut self) {
+        let (bytes, running) = self.strings.next(&mut self.random);
+        self.reads.list_by_list(&mut self.string, &mut self.random, bytes, 0, running);
     }
 
     /// A legal list in a room that it fills, one that is a byte short, one that is larger, and any other; then the same
@@ -154,33 +188,60 @@ impl Lists {
         }
         self.wrong(&list, count);
         self.compared(&list);
+        self.list = list;
     }
 
     /// Every running status that is none, of lists that are right, and of lists that are wrong in other ways too.
     fn no_running_status(&mut self, running: u8) {
-        for count in [0, 1, 3, 128, 129].iter() {
-            let mut list = self.list(0, (*count).min(CAPACITY));
-            list.running = running;
-            let rows = cells(&list);
-            self.refused(Sheet { rows: &rows, count: *count, payload: list.payload }, running, 40);
+        for &count in [0, 1, 3, 128, 129].iter() {
+            let list = self.list(0, count.min(CAPACITY));
+            self.refused(Sheet { count, ..list.sheet(0) }, running, 40);
             let bytes = [0, 0x90, 0x3C, 0x40, 0x60, 0x3C, 0];
-            self.read_one(&bytes[..7.min(*count)], 0, running);
+            self.reads.compare(&mut self.none, &bytes[..7.min(count)], 0, running, |_| WIDTH);
+            self.list = list;
         }
     }
 }
 
-/// Events as the Rust has them, with their rows, one behind the other, over the bytes that hold their payloads.
+/// Events as the Rust has them, with their rows, one behind the other, over the bytes that hold their payloads. Behind
+/// the rows stand more cells, which are no event's.
+#[derive(Default)]
 struct List {
     events: Vec<TrackEvent<'static>>,
-    rows: Vec<[u64; WIDTH]>,
+    rows: Vec<u64>,
     payload: &'static [u8],
     running: u8,
 }
 
+impl List {
+    /// As the port is given it, with so many of the cells behind the rows.
+    fn sheet(&self, more: usize) -> Sheet<'_> {
+        let count = self.events.len();
+        Sheet { rows: &self.rows[..WIDTH * count + more], count, payload: self.payload }
+    }
+
+    /// How many bytes the Rust writes for it, and the running status after them.
+    fn need(&self) -> (usize, u8) {
+        let (mut counter, mut status) = (WriteCounter(0), option(self.running));
+        self.events.iter().for_each(|event| event.write(&mut status, &mut counter).unwrap());
+        (counter.0 as usize, status.unwrap_or(0))
+    }
+
+    /// With some of its events.
+    fn only(&self, kept: &[usize]) -> List {
+        let rows = kept.iter().flat_map(|at| self.rows[WIDTH * at..WIDTH * (at + 1)].iter().copied());
+        List { events: kept.iter().map(|at| self.events[*at]).collect(), rows: rows.collect(), ..*self }
+    }
+}
+
 impl Lists {
-    /// A list of so many legal events.
+    /// A list of so many legal events, in the place of the last.
     fn list(&mut self, running: u8, count: usize) -> List {
-        let mut list = List { events: Vec::new(), rows: Vec::new(), payload: self.pool, running };
+        let mut list = core::mem::take(&mut self.list);
+        list.events.clear();
+        list.rows.clear();
+        list.payload = self.pool;
+        list.running = running;
         let mut status = running;
         for _ in 0..count {
             let event = self.event(status);
@@ -190,8 +251,9 @@ impl Lists {
             let mut row = events::row(&event, list.payload);
             self.soil(&mut row);
             list.events.push(event);
-            list.rows.push(row);
+            list.rows.extend_from_slice(&row);
         }
+        list.rows.extend_from_slice(&[CELL; MORE]);
         list
     }
 
@@ -209,15 +271,18 @@ impl Lists {
 
     /// Rows that are too few for the count, a count above what a list holds, or an event that is made illegal.
     fn wrong(&mut self, list: &List, count: usize) {
-        let (mut rows, mut count) = (cells(list), count);
+        let (mut rows, mut count) = (core::mem::take(&mut self.spoiled), count);
+        rows.clear();
+        rows.extend_from_slice(list.sheet(0).rows);
         match self.random.below(8) {
             0 => rows.truncate(self.random.below(rows.len() + 1)),
             1 => count = self.random.of(&[129, 130, 255, 256, 257, 1 << 32, (1 << 60) + 3, usize::MAX]),
-            2 => count = list.rows.len() + 1 + self.random.below(3),
+            2 => count = list.events.len() + 1 + self.random.below(3),
             _ => (0..=self.random.below(2)).for_each(|_| self.spoil(&mut rows)),
         }
         let room = self.random.below(300);
         self.refused(Sheet { rows: &rows, count, payload: list.payload }, list.running, room);
+        self.spoiled = rows;
     }
 
     fn spoil(&mut self, rows: &mut [u64]) {
@@ -243,28 +308,32 @@ impl Lists {
 
     /// With itself as it is read back from its own bytes, and with that list changed.
     fn compared(&mut self, list: &List) {
-        let (mut bytes, mut status) = (Vec::new(), option(list.running));
-        list.events.iter().for_each(|event| event.write(&mut status, &mut bytes).unwrap());
-        let mut back = vec![0; WIDTH * CAPACITY];
-        let (_, (count, _, _)) = port::list_read(&bytes, 0, list.running, &mut back);
+        let mut back = core::mem::take(&mut self.back_rows);
+        self.bytes.clear();
+        let mut status = option(list.running);
+        list.events.iter().for_each(|event| event.write(&mut status, &mut self.bytes).unwrap());
+        let (_, (count, _, _)) = port::list_read(&self.bytes, 0, list.running, &mut back);
+        let bytes = core::mem::take(&mut self.bytes);
         self.lists_same(list, &list.events, Sheet { rows: &back, count: count.unwrap(), payload: &bytes });
-        let mut other = List { events: list.events.clone(), rows: list.rows.clone(), payload: list.payload, running: 0 };
+        self.bytes = bytes;
+        self.back_rows = back;
+
+        let mut other = core::mem::take(&mut self.other);
+        other.events.clone_from(&list.events);
+        other.rows.clone_from(&list.rows);
+        other.payload = list.payload;
         if !other.events.is_empty() && self.random.below(4) > 0 {
             let at = self.random.below(other.events.len());
             self.change(&mut other, at);
-            let (a, b) = (&list.rows[at], &other.rows[at]);
-            let told = (list.events[at] == other.events[at]) as u8;
-            self.events_same.of_kind(if told == 1 { "the same" } else { "not the same" });
-            let port = port::event_same(a, list.payload, b, other.payload);
-            self.events_same.compare((0, told), (0, port), 1, || format!("rows {:X?} and {:X?}", a, b));
+            self.one_same(list, &other, at);
         } else if other.events.pop().is_some() {
-            other.rows.pop();
+            other.rows.truncate(WIDTH * other.events.len() + MORE);
         }
-        let rows = cells(&other);
-        self.lists_same(list, &other.events, Sheet { rows: &rows, count: other.rows.len(), payload: other.payload });
-        let short = self.random.below(rows.len() + 1);
+        self.lists_same(list, &other.events, other.sheet(0));
+        let short = self.random.below(other.sheet(0).rows.len() + 1);
         let count = self.random.of(&[0, 1, 2, 127, 128, 129, usize::MAX]);
-        self.none_same(list, Sheet { rows: &rows[..short], count, payload: other.payload });
+        self.none_same(list, Sheet { rows: &other.rows[..short], count, payload: other.payload });
+        self.other = other;
     }
 
     /// Another event there, or another delta alone, or the same payload from another place.
@@ -274,52 +343,19 @@ impl Lists {
             1 => list.events[at].delta = u28::new(list.events[at].delta.as_int() ^ 1 << self.random.below(28)),
             _ => {}
         }
-        list.rows[at] = events::row(&list.events[at], list.payload);
+        list.rows[WIDTH * at..WIDTH * (at + 1)].copy_from_slice(&events::row(&list.events[at], list.payload));
     }
 }
 
 // ---- one comparison each
 
 impl Lists {
-    /// Reads one list into cells that are enough or too few. Answers where to read on, where it is full.
-    fn read_one(&mut self, bytes: &[u8], at: usize, running: u8) -> Option<(usize, u8)> {
-        let rust = rust_reads(bytes, at, running);
-        let need = rust.rows.len();
-        let room = self.random.of(&[WIDTH * CAPACITY, WIDTH * CAPACITY, WIDTH * CAPACITY + 3, need]);
-        let room = if self.random.below(8) == 0 { self.random.below(need + 1) } else { room };
-        let mut cells = vec![CELL; room];
-        let port = port::list_read(bytes, at, running, &mut cells);
-        let mut wanted = vec![CELL; room];
-        let (why, set) = if room < need {
-            (20, (None, None, 0xFF))
-        } else {
-            wanted[..need].copy_from_slice(&rust.rows);
-            (rust.why, (Some(need / WIDTH), Some(rust.place), rust.running))
-        };
-        match why {
-            0 => self.read.of_kind("read to the end"),
-            FULL => self.read.of_kind("full"),
-            _ => {}
-        }
-        let number = |why: u8| if why == FULL { 0 } else { why };
-        self.read.compare(
-            (number(why), (why, set, Rows(&wanted))),
-            (number(port.0), (port.0, port.1, Rows(&cells))),
-            bytes.len(),
-            || format!("{:?} at {} running {:02X}, {} cells", Bytes(bytes), at, running, room),
-        );
-        Some((rust.place, rust.running)).filter(|_| rust.why == FULL)
-    }
-
     /// Answers how many bytes the Rust's list has.
     fn measured(&mut self, list: &List) -> usize {
-        let (mut counter, mut status) = (WriteCounter(0), option(list.running));
-        list.events.iter().for_each(|event| event.write(&mut status, &mut counter).unwrap());
-        let need = counter.0 as usize;
-        let rows = cells(list);
-        let port = port::list_length(sheet(list, &rows), list.running);
-        let rust: (u8, Laid) = (0, (Some(need), status.unwrap_or(0), None));
-        self.length.compare(rust, port, list.rows.len(), || told(sheet(list, &rows), list.running));
+        let (need, after) = list.need();
+        let port = port::list_length(list.sheet(0), list.running);
+        let rust: (u8, Laid) = (0, (Some(need), after, None));
+        self.length.compare(rust, port, list.events.len(), || told(list.sheet(0), list.running));
         need
     }
 
@@ -327,34 +363,59 @@ impl Lists {
     /// they came, and the running status as given. What both wrote is read back.
     fn written(&mut self, list: &List, room: usize) {
         let rust = rust_writes(list, &mut self.rust_out[..room], &self.lent);
-        let mut rows = cells(list);
-        rows.extend(vec![CELL; self.random.below(12)]);
-        let port = port::list_write(sheet(list, &rows), list.running, &mut self.port_out[..room]);
+        let sheet = list.sheet(self.random.below(MORE + 1));
+        let port = port::list_write(sheet, list.running, &mut self.port_out[..room]);
         let whole = room + BEHIND;
-        match list.rows.len() {
-            0 => self.write.of_kind("empty"),
-            CAPACITY => self.write.of_kind("full"),
+        match list.events.len() {
+            0 => self.write.of_kind(0),
+            CAPACITY => self.write.of_kind(1),
             _ => {}
         }
-        self.write.compare(
+        let differs = self.write.compare(
             (rust.0, (rust.1, Bytes(&self.rust_out[..whole]))),
             (port.0, (port.1, Bytes(&self.port_out[..whole]))),
-            list.rows.len() + room,
-            || format!("{} in {}", told(sheet(list, &rows), list.running), room),
+            list.events.len() + room,
+            || format!("{} in {}", told(sheet, list.running), room),
         );
-        if let (0, (Some(length), after, _)) = rust {
-            let mut back = vec![CELL; WIDTH * list.rows.len()];
-            let read = port::list_read(&self.port_out[..length], 0, list.running, &mut back);
-            let wanted = rust_reads(&self.rust_out[..length], 0, list.running);
-            self.back.compare(
-                (0, ((Some(list.rows.len()), Some(length), after), Rows(&wanted.rows))),
-                (read.0, (read.1, Rows(&back))),
-                length,
-                || told(sheet(list, &rows), list.running),
-            );
+        if differs && self.write.is_new((rust.0, port.0)) {
+            self.fewer(list, room);
+        } else if let (false, (0, (Some(length), after, _))) = (differs, rust) {
+            let bytes = &self.port_out[..length];
+            let read = self.reads.compare(&mut self.back, bytes, 0, list.running, |_| WIDTH * sheet.count);
+            assert!(read.is_whole(sheet.count, length, after), "the Rust reads another list than it wrote");
         }
         self.rust_out[..whole].copy_from_slice(&self.lent[..whole]);
         self.port_out[..whole].copy_from_slice(&self.lent[..whole]);
+    }
+
+    /// Shows a list of fewer events that has the same two answers and still differs, in a room that is as much too small
+    /// or too large.
+    #[cold]
+    fn fewer(&mut self, list: &List, room: usize) {
+        let all: Vec<usize> = (0..list.events.len()).collect();
+        let lent = &self.lent;
+        let asked = |kept: &[usize]| {
+            let less = list.only(kept);
+            let room = (less.need().0 + room).saturating_sub(list.need().0);
+            let (mut rust_out, mut port_out) = (lent[..room + BEHIND].to_vec(), lent[..room + BEHIND].to_vec());
+            let rust = rust_writes(&less, &mut rust_out[..room], lent);
+            let port = port::list_write(less.sheet(0), less.running, &mut port_out[..room]);
+            ((rust.0, (rust.1, rust_out)), (port.0, (port.1, port_out)), room)
+        };
+        let answers = |kept: &[usize]| {
+            let (rust, port, _) = asked(kept);
+            Some((rust.0, port.0)).filter(|_| rust != port)
+        };
+        let whole = answers(&all);
+        let kept = shrink::things(&all, |kept| answers(kept) == whole);
+        let (rust, port, room) = asked(&kept);
+        let less = list.only(&kept);
+        self.write.show(
+            (rust.0, ((rust.1).0, Bytes(&(rust.1).1))),
+            (port.0, ((port.1).0, Bytes(&(port.1).1))),
+            kept.len() + room,
+            || format!("{} in {}", told(less.sheet(0), less.running), room),
+        );
     }
 
     /// What may not be written: nothing is, whatever the room. A sheet that may be is let go.
@@ -377,13 +438,26 @@ impl Lists {
         self.illegal_length.compare((number, wanted), port, sheet.rows.len(), || told(sheet, running));
     }
 
+    /// One event of a list, and the one in its place of another.
+    fn one_same(&mut self, list: &List, other: &List, at: usize) {
+        let row = |list: &List| {
+            let mut row = [0; WIDTH];
+            row.copy_from_slice(&list.rows[WIDTH * at..WIDTH * (at + 1)]);
+            row
+        };
+        let (a, b) = (row(list), row(other));
+        let rust = (list.events[at] == other.events[at]) as u8;
+        self.events_same.of_kind(1 - rust as usize);
+        let port = port::event_same(&a, list.payload, &b, other.payload);
+        self.events_same.compare((0, rust), (0, port), 1, || format!("rows {:X?} and {:X?}", a, b));
+    }
+
     fn lists_same(&mut self, list: &List, others: &[TrackEvent], other: Sheet) {
-        let rows = cells(list);
         let rust = (list.events[..] == *others) as u8;
-        self.same.of_kind(if rust == 1 { "the same" } else { "not the same" });
-        let there = port::list_same(sheet(list, &rows), other);
-        let back = port::list_same(other, sheet(list, &rows));
-        self.same.compare((0, (rust, rust)), (0, (there, back)), rows.len(), || told(other, 0));
+        self.same.of_kind(1 - rust as usize);
+        let there = port::list_same(list.sheet(0), other);
+        let back = port::list_same(other, list.sheet(0));
+        self.same.compare((0, (rust, rust)), (0, (there, back)), list.events.len(), || told(other, 0));
     }
 
     /// A sheet that is no list is like none, on either side.
@@ -392,10 +466,9 @@ impl Lists {
         if number == 0 {
             return;
         }
-        let rows = cells(list);
-        let there = port::list_same(sheet(list, &rows), other);
-        let back = port::list_same(other, sheet(list, &rows));
-        self.same.compare((number, (number, number)), (there, (there, back)), rows.len(), || told(other, 0));
+        let there = port::list_same(list.sheet(0), other);
+        let back = port::list_same(other, list.sheet(0));
+        self.same.compare((number, (number, number)), (there, (there, back)), list.events.len(), || told(other, 0));
     }
 }
 
@@ -403,40 +476,6 @@ impl Lists {
 
 fn option(running: u8) -> Option<u8> {
     Some(running).filter(|running| *running != 0)
-}
-
-struct Read {
-    why: u8,
-    rows: Vec<u64>,
-    place: usize,
-    running: u8,
-}
-
-/// Event by event, up to so many. A refusal leaves the place and the running status before it. The Rust takes any
-/// running status: one that is none is refused here, by 1.
-fn rust_reads(bytes: &[u8], at: usize, running: u8) -> Read {
-    let mut left = bytes.get(at..).unwrap_or(&[]);
-    let (whole, mut status, mut why, mut rows) = (left.len(), option(running), 0, Vec::new());
-    if running != 0 && !(0x80..=0xEF).contains(&running) {
-        return Read { why: 1, rows, place: at, running };
-    }
-    while !left.is_empty() {
-        if rows.len() == WIDTH * CAPACITY {
-            why = FULL;
-            break;
-        }
-        let before = (left, status);
-        match TrackEvent::read(&mut left, &mut status) {
-            Ok(event) => rows.extend_from_slice(&events::row(&event, bytes)),
-            Err(error) => {
-                why = refusal::of(&error);
-                left = before.0;
-                status = before.1;
-                break;
-            }
-        }
-    }
-    Read { why, rows, place: at + (whole - left.len()), running: status.unwrap_or(0) }
 }
 
 fn rust_writes(list: &List, out: &mut [u8], lent: &[u8]) -> (u8, Laid) {
@@ -489,28 +528,6 @@ fn refused(sheet: Sheet, running: u8) -> (u8, usize) {
     (0, 0)
 }
 
-// ---- what is shown
-
-fn cells(list: &List) -> Vec<u64> {
-    list.rows.iter().flat_map(|row| row.iter().copied()).collect()
-}
-
-fn sheet<'a>(list: &List, rows: &'a [u64]) -> Sheet<'a> {
-    Sheet { rows, count: list.rows.len(), payload: list.payload }
-}
-
 fn told(sheet: Sheet, running: u8) -> String {
     format!("{:?} of {}, {} bytes, running {:02X}", Rows(sheet.rows), sheet.count, sheet.payload.len(), running)
-}
-
-/// Cells as they are shown: the first rows of them, and how many there are.
-#[derive(PartialEq)]
-struct Rows<'a>(&'a [u64]);
-
-impl std::fmt::Debug for Rows<'_> {
-    fn fmt(&self, f: &mut std::fmt::Formatter) -> std::fmt::Result {
-        write!(f, "{} cells", self.0.len())?;
-        self.0.chunks(WIDTH).take(4).try_for_each(|row| write!(f, " {:X?}", row))?;
-        write!(f, "{}", if self.0.len() > 4 * WIDTH { " .." } else { "" })
-    }
 }

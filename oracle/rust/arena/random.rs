@@ -17,7 +17,7 @@ impl Random {
 
     /// Below `end`, which is not 0.
     pub fn below(&mut self, end: usize) -> usize {
-        (self.bits() % end as u64) as usize
+        (self.bits() as u128 * end as u128 >> 64) as usize
     }
 
     /// One of the values.
@@ -25,13 +25,15 @@ impl Random {
         values[self.below(values.len())]
     }
 
-    /// A byte, where bytes that go on, paddings and the ends of seven and eight bits come often.
+    /// A byte, where bytes that go on, paddings and the ends of seven and eight bits come often. One step of the sample
+    /// gives the byte and the choice.
     pub fn byte(&mut self) -> u8 {
-        let byte = self.bits() as u8;
-        match self.below(8) {
+        let bits = self.bits();
+        let byte = bits as u8;
+        match bits >> 8 & 7 {
             0 | 1 => byte | 0x80,
             2 => 0x80,
-            3 => self.of(&[0x00, 0x01, 0x7F, 0x81, 0xFF]),
+            3 => [0x00, 0x01, 0x7F, 0x81, 0xFF][(bits >> 16) as usize % 5],
             _ => byte,
         }
     }
@@ -39,5 +41,10 @@ impl Random {
     /// A 32-bit number, each width as often as another.
     pub fn wide(&mut self) -> u32 {
         self.bits() as u32 >> self.below(32)
+    }
+
+    /// A running status that is valid: none in one of eight.
+    pub fn running(&mut self) -> u8 {
+        if self.below(8) == 0 { 0 } else { 0x80 + self.below(0x70) as u8 }
     }
 }

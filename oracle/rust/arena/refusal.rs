@@ -5,18 +5,35 @@ use crate::{error::Error, io::CursorError, prelude::*};
 
 /// Of an error with its chain.
 pub fn of(error: &Error) -> u8 {
-    let mut under = Vec::new();
     let mut last = error;
     while let Some(source) = last.source() {
-        under.push(last.kind().message());
         last = source;
     }
-    number(last.kind().message(), &under)
+    match last.kind().message() {
+        INTEGER if is_under(error, "failed to read meta message type") => 10,
+        INTEGER if is_under(error, "failed to read meta event") => 14,
+        wrong => number(wrong),
+    }
 }
 
 /// Of an error that stands under nothing.
 pub fn of_kind(kind: &ErrorKind) -> u8 {
-    number(kind.message(), &[])
+    number(kind.message())
+}
+
+/// Three places share these words.
+const INTEGER: &str = "failed to read the expected integer";
+
+/// Whether these words are in an error's chain.
+fn is_under(error: &Error, words: &str) -> bool {
+    let mut next = Some(error);
+    while let Some(error) = next {
+        if error.kind().message() == words {
+            return true;
+        }
+        next = error.source();
+    }
+    false
 }
 
 /// Of a refused write.
@@ -28,7 +45,7 @@ pub fn of_write(error: &CursorError) -> u8 {
     }
 }
 
-fn number(wrong: &str, under: &[&str]) -> u8 {
+fn number(wrong: &str) -> u8 {
     match wrong {
         "unexpected eof while reading varlen int" => 2,
         "varlen integer larger than 4 bytes" => 3,
@@ -43,16 +60,7 @@ fn number(wrong: &str, under: &[&str]) -> u8 {
         "invalid smpte time" => 13,
         "invalid smf format" => 15,
         "invalid smpte fps" => 16,
-        // three places share these words
-        "failed to read the expected integer" => {
-            if under.contains(&"failed to read meta message type") {
-                10
-            } else if under.contains(&"failed to read meta event") {
-                14
-            } else {
-                17
-            }
-        }
-        _ => panic!("a refusal that has no number: {}, under {:?}", wrong, under),
+        INTEGER => 17,
+        _ => panic!("a refusal that has no number: {}", wrong),
     }
 }

@@ -4,6 +4,8 @@ use std::{collections::BTreeMap, fmt};
 
 /// One more than the highest number of a refusal.
 const NUMBERS: usize = 24;
+/// Of how many differences with the same two answers a smaller input is looked for.
+const SHRUNK: u64 = 20;
 
 pub struct Entry {
     name: &'static str,
@@ -11,8 +13,10 @@ pub struct Entry {
     due: &'static [u8],
     /// How often the Rust gave each answer: 0 is accepted.
     answers: [u64; NUMBERS],
-    /// How often each kind was seen, where kinds are counted. Each has to occur.
-    kinds: BTreeMap<&'static str, u64>,
+    /// How often each kind was seen, where kinds are counted.
+    kinds: Vec<(&'static str, u64)>,
+    /// Whether each of them has to occur too.
+    kinds_due: bool,
     /// By the Rust's answer and the port's: what differs.
     differences: BTreeMap<(u8, u8), Difference>,
 }
@@ -26,38 +30,60 @@ struct Difference {
 
 impl Entry {
     pub fn new(name: &'static str, due: &'static [u8]) -> Entry {
-        Entry { name, due, answers: [0; NUMBERS], kinds: BTreeMap::new(), differences: BTreeMap::new() }
+        let (kinds, kinds_due) = (Vec::new(), false);
+        Entry { name, due, answers: [0; NUMBERS], kinds, kinds_due, differences: BTreeMap::new() }
     }
 
-    /// With the kinds that are counted.
-    pub fn of_kinds(mut self, kinds: &[&'static str]) -> Entry {
-        self.kinds = kinds.iter().map(|kind| (*kind, 0)).collect();
+    /// With more kinds that are counted.
+    pub fn counting(mut self, kinds: &[&'static str]) -> Entry {
+        self.kinds.extend(kinds.iter().map(|kind| (*kind, 0)));
         self
     }
 
-    /// Counts one of a kind.
-    pub fn of_kind(&mut self, kind: &'static str) {
-        *self.kinds.get_mut(kind).unwrap() += 1;
+    /// With more kinds that are counted, where every kind has to occur.
+    pub fn of_kinds(self, kinds: &[&'static str]) -> Entry {
+        Entry { kinds_due: true, ..self.counting(kinds) }
     }
 
-    /// Compares the Rust's answer with the port's, each with all that came with it.
+    /// Counts one of a kind, by its index.
+    pub fn of_kind(&mut self, kind: usize) {
+        self.kinds[kind].1 += 1;
+    }
+
+    /// Compares the Rust's answer with the port's, each with all that came with it. Answers whether they differ.
     pub fn compare<T: PartialEq + fmt::Debug>(
         &mut self,
         rust: (u8, T),
         port: (u8, T),
         size: usize,
         input: impl FnOnce() -> String,
-    ) {
+    ) -> bool {
         self.answers[rust.0 as usize] += 1;
-        if rust != port {
-            let first = Difference { count: 0, size: u64::MAX, shown: String::new() };
-            let so_far = self.differences.entry((rust.0, port.0)).or_insert(first);
-            so_far.count += 1;
-            if (size as u64) < so_far.size {
-                so_far.size = size as u64;
-                so_far.shown = format!("{}\n      the Rust: {:?}\n      the port: {:?}", input(), rust, port);
-            }
+        if rust == port {
+            return false;
         }
+        self.difference(rust.0, port.0).count += 1;
+        self.show(rust, port, size, input);
+        true
+    }
+
+    /// Whether only a few differences with these two answers were seen, so that a smaller input is to be looked for.
+    pub fn is_new(&mut self, (rust, port): (u8, u8)) -> bool {
+        self.difference(rust, port).count <= SHRUNK
+    }
+
+    /// Keeps an input that differs, and was counted, where it is the smallest so far.
+    pub fn show<T: fmt::Debug>(&mut self, rust: (u8, T), port: (u8, T), size: usize, input: impl FnOnce() -> String) {
+        let so_far = self.difference(rust.0, port.0);
+        if (size as u64) < so_far.size {
+            so_far.size = size as u64;
+            so_far.shown = format!("{}\n      the Rust: {:?}\n      the port: {:?}", input(), rust, port);
+        }
+    }
+
+    fn difference(&mut self, rust: u8, port: u8) -> &mut Difference {
+        let first = Difference { count: 0, size: u64::MAX, shown: String::new() };
+        self.differences.entry((rust, port)).or_insert(first)
     }
 
     pub fn compared(&self) -> u64 {
@@ -76,7 +102,8 @@ impl Entry {
             print!("; refused with {}: {}", number, grouped(*count));
         }
         println!();
-        let kinds: Vec<_> = self.kinds.iter().map(|(kind, count)| format!("{} {}", kind, grouped(*count))).collect();
+        let seen = self.kinds.iter().filter(|kind| kind.1 > 0);
+        let kinds: Vec<_> = seen.map(|(kind, count)| format!("{} {}", kind, grouped(*count))).collect();
         kinds.chunks(6).for_each(|some| println!("    {}", some.join("; ")));
         for ((rust, port), it) in &self.differences {
             println!("    DIFFERS {} times, the Rust {}, the port {}; smallest input:", grouped(it.count), rust, port);
@@ -84,7 +111,7 @@ impl Entry {
         }
         let missed: Vec<_> = self.due.iter().filter(|number| self.answers[**number as usize] == 0).collect();
         missed.iter().for_each(|number| println!("    NEVER OCCURRED: {}", number));
-        let unseen: Vec<_> = self.kinds.iter().filter(|kind| *kind.1 == 0).collect();
+        let unseen: Vec<_> = self.kinds.iter().filter(|kind| self.kinds_due && kind.1 == 0).collect();
         unseen.iter().for_each(|kind| println!("    NEVER OCCURRED: {}", kind.0));
         self.differences.is_empty() && missed.is_empty() && unseen.is_empty()
     }

@@ -57,7 +57,7 @@ pub fn run(mut random: Random, full: bool) -> Vec<Entry> {
     };
     for running in Some(0).into_iter().chain(0x80..=0xEF) {
         for kind in 0..kinds::KINDS.len() {
-            (0..if full { 3200 } else { 100 }).for_each(|_| it.legal(kind, running));
+            (0..if full { 15_300 } else { 100 }).for_each(|_| it.legal(kind, running));
         }
     }
     it.long();
@@ -94,7 +94,7 @@ impl Writing {
         let most = self.random.of(&[300, 24, 24, 8]);
         let length = self.random.below(most + 1);
         let mut given = self.given(kind, if kinds::carries(kind) { length } else { 0 }, running);
-        self.write.of_kind(kinds::KINDS[kind]);
+        self.write.of_kind(kind);
         self.soil(&mut given.row);
         let need = self.measured(&given);
         let at = self.random.of(&[0, 0, 1, 7]);
