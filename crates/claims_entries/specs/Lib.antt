@@ -1,0 +1,2 @@
+-- What is claimed of the entries.
+pub mod Entries
