@@ -40,7 +40,7 @@ abbrev pub sizeTaken : ℕ → List ℕ → Answer Held → ListSize
 sizeTaken running payload (gives h) = sizeList anyRules capacity running payload (h .records) (h .count)
 sizeTaken running payload (refuses n) = unsized running n 0
 
--- how long the bytes of so many rows' events are; document 01: 1, 21, then 20 where the cells are too few for the count, then the first illegal event
+-- how long the bytes of so many rows' events are; document 01: 1, 21, then the first illegal event; and between the two, of what the document does not have, 20 where the cells are too few for the count
 unfoldable pub sheetSize : ℕ → List ℕ → List ℕ → ℕ → ListSize
 sheetSize running payload cells count =
     pick (isRunning running) (sizeTaken running payload (sheetList capacity cells count)) (unsized running 1 0)

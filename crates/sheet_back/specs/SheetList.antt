@@ -15,7 +15,7 @@ unfoldable pub sheetEvents : ℕ → List ℕ → List (Event Span)
 sheetEvents zero cells = []
 sheetEvents (suc n) cells = rowEvent (take width cells) ∷ sheetEvents n (drop width cells)
 
--- the list of so many rows; document 01: 21 where the count is above what a list holds, and 20, no room, where the cells are too few for it
+-- the list of so many rows; document 01: 21 where the count is above what a list holds. Cells are not in the document: 20, no room, where they are too few for the count
 unfoldable pub sheetList : ℕ → List ℕ → ℕ → Answer Held
 sheetList most cells count =
     pick (leb count most) (pick (leb (count * width) (length cells)) (gives (holding most (sheetEvents count cells))) (refuses 20))
