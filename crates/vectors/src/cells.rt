@@ -90,22 +90,19 @@ pub fn put_bytes(bytes: &[u8], found: &mut [u64; CELLS], at: usize) -> usize {
     count
 }
 
-// Rows put behind the first numbers of an answer. How many numbers there are then.
-pub fn put_rows(rows: &[u64; ROWS], count: usize, found: &mut [u64; CELLS], at: usize) -> usize {
-    let mut end = at;
+// The same of numbers.
+pub fn put_cells(cells: &[u64], found: &mut [u64; CELLS], at: usize) -> usize {
+    let mut count = at;
     let mut i: usize = 0;
-    while i < ROWS {
-        if count <= i / 10 {
-            return end;
+    while i < cells.len() {
+        if CELLS <= count {
+            return count;
         }
-        if CELLS <= end {
-            return end;
-        }
-        found[end] = rows[i];
-        end += 1;
+        found[count] = cells[i];
+        count += 1;
         i += 1;
     }
-    end
+    count
 }
 
 // Whether the numbers are those that were found.

@@ -11,10 +11,12 @@ use Rattle.put.proofs.store.put_status.Tie as tie
 returns : tie.Need-returns
 returns c =
     let a = c .before .before .args in
-    rw (eq-eqb _ _ (c .if1 .taken)) (record { place = sym (add-zero (a .at)); buffer = over-none (a .out .now) (a .at) })
+    rw (eq-eqb (a .running .status) (a .status) (c .if1 .taken)) (record { place = sym (add-zero (a .at)); buffer = over-none (a .out .now) (a .at) })
 
 slice-write-out : tie.Need-slice-write-out
-slice-write-out c = omega (arith, rw (ne-eqb _ _ (c .if1 .left)) at (c .before .before .pre))
+slice-write-out c =
+    let a = c .before .before .args in
+    omega (arith, rw (ne-eqb (a .running .status) (a .status) (c .if1 .left)) at (c .before .before .pre))
 
 add-result : tie.Need-add-result
 add-result c = search needs
@@ -25,7 +27,7 @@ same-length c = search needs
 returns-2 : tie.Need-returns-2
 returns-2 c =
     let a = c .before .before .args in
-    rw (ne-eqb _ _ (c .if1 .left)) (record { place = refl; buffer = over-one (a .out .now) (a .at) (a .status) (slice-write-out c) })
+    rw (ne-eqb (a .running .status) (a .status) (c .if1 .left)) (record { place = refl; buffer = over-one (a .out .now) (a .at) (a .status) (slice-write-out c) })
 
 pub put-status-spec : {M : Type 1} → statement M
 put-status-spec = tie.close (tie.spec returns slice-write-out add-result same-length returns-2)

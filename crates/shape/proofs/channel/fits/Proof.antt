@@ -10,7 +10,7 @@ returns c = rw (le-ltb _ _ (c .if1 .taken))
 
 returns-2 : tie.Need-returns-2
 unfolding channelFits
-returns-2 c = rw (le-ltb _ _ (c .if2 .taken), lt-ltb _ _ (c .before .before .if1 .left))
+returns-2 c = rw (le-ltb _ 16 (c .if2 .taken), lt-ltb _ _ (c .before .before .if1 .left))
 
 returns-3 : tie.Need-returns-3
 unfolding channelFits

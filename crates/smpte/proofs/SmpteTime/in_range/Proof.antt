@@ -1,11 +1,13 @@
 -- `SmpteTime::in_range` meets its contract: each test that fails leaves its range, and all that hold are the ranges.
 use mathlib.Core.Path.{sym, _∙_}
+use Prim.Native.Nat.{_<_}
 use native.Mathlib.Omega.{arith}
 use borrow.Author.Needs.{needs}
 use borrow.Author.Tests.{lt-ltb, le-ltb}
 use Rattle.smf.proofs.Answer.{by-lt}
 use Rattle.smf.proofs.Smpte.{is-time, out-of-range}
 use Rattle.smpte.specs.Smpte.{smpteTimeOf}
+use Rattle.header.specs.Fps.{rateOf}
 use Rattle.header.proofs.Rates.{rated}
 use Rattle.smpte.proofs.SmpteTime.in_range.Statement.{statement}
 use Rattle.smpte.proofs.SmpteTime.in_range.Tie as tie
@@ -19,6 +21,9 @@ returns-2 c = sym (out-of-range (smpteTimeOf (c .before .before .before .before 
 returns-3 : tie.Need-returns-3
 returns-3 c = sym (out-of-range (smpteTimeOf (c .before .before .before .before .before .before .args .self)) (λ r. omega arith))
 
+second-below : (c : tie.Else3) → c .before .before .before .before .before .before .args .self .second < 60
+second-below c = omega arith
+
 as-int-requires : tie.Need-as-int-requires
 as-int-requires c κs = search needs
 
@@ -26,6 +31,9 @@ returns-4 : tie.Need-returns-4
 returns-4 c =
     let b = c .before .before .before in
     sym (out-of-range (smpteTimeOf (b .before .before .before .before .before .before .args .self)) (λ r. omega (arith, c .before .before .as-int .ensures)))
+
+frame-below : (c : tie.Else4) → c .before .before .before .before .before .before .before .before .before .args .self .frame < rateOf (c .before .before .before .before .before .before .before .before .before .args .self .fps)
+frame-below c = omega (arith, c .before .before .as-int .ensures)
 
 returns-5 : tie.Need-returns-5
 returns-5 c =
@@ -36,8 +44,8 @@ returns-5 c =
       rated = rated (time .fps) .is;
       hour-below = omega arith;
       minute-below = omega arith;
-      second-below = omega arith;
-      frame-below = omega (arith, c .before .before .before .as-int .ensures);
+      second-below = second-below b;
+      frame-below = frame-below (c .before);
       subframe-below = h;
     })))
     (λ h. le-ltb _ _ h ∙ sym (out-of-range (smpteTimeOf time) (λ r. omega arith)))
