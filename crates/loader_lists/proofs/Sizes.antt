@@ -11,7 +11,7 @@ use Rattle.smf.specs.Running.{isRunning}
 use Rattle.smf.specs.Place.{Span}
 use Rattle.smf.specs.Write.{over}
 use Rattle.smf.specs.Event.{Event, mapEvent, bytesOf}
-use Rattle.smf.specs.Lists.{RecordsLegal, check, encodeList, Held, holding, wrote, ListSize, unsized, sizeChecked, sizeList, ListWritten, listLeft, writeList}
+use Rattle.smf.specs.Lists.{RecordsLegal, check, encodeList, Held, holding, wrote, refusesAt, ListSize, unsized, sizeChecked, sizeList, listLeft, writeList}
 use Rattle.track.specs.List.{capacity}
 use Rattle.sheet.specs.Sheet.{width}
 use Rattle.sheet_back.specs.SheetList.{sheetEvents}
@@ -72,7 +72,7 @@ module _ (running : ℕ) (payload cells : List ℕ) (count : ℕ) where
     by : Sheet → listLeft running buffer n i ≡ sheetWritten running payload cells count buffer
     by (whole w) = list.unsized-left anyRules capacity running payload (held .records) (held .count) buffer n i (e ∙ sym (w .sizes)) ∙ w .writes buffer
     by (none m w) =
-        let q : unsized running n i ≡ unsized running m 0 = e ∙ sym (w .sizes) in
+        let q : refusesAt n i ≡ refusesAt m 0 = ap (λ (s : ListSize). s .answer) (e ∙ sym (w .sizes)) in
         let a : n ≡ m = cc in
         let b : i ≡ 0 = cc in
         rw (a, b) (w .writes buffer)
@@ -84,7 +84,7 @@ module _ (running : ℕ) (payload cells : List ℕ) (count : ℕ) where
       by : Sheet → Whole
       by (whole w) = w
       by (none m w) =
-          let q : record { answer = wrote n; running = after } ≡ unsized running m 0 = e ∙ sym (w .sizes) in
+          let q : wrote n ≡ refusesAt m 0 = ap (λ (s : ListSize). s .answer) (e ∙ sym (w .sizes)) in
           let z : _≡_ {A = ℕ} 0 1 = cc in
           absurd (omega arith)
 
