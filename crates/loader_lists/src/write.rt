@@ -1,4 +1,4 @@
-// Measuring and writing a sheet's list. Its count is looked at before its cells, and both before its events.
+// Measuring and writing a sheet's list, row by row: no list is made of the rows.
 ghost use mathlib.Core.Path.{_≡_};
 ghost use mathlib.Core.List.{map};
 ghost use Prim.Native.Nat.{_*_, _≤_};
@@ -66,26 +66,25 @@ fn measure_rows(rows: &[u64], count: usize, payload: &[u8], running: Running) ->
     })
 }
 
+// Before any event is looked at.
+fn refused(refusal: Refusal) -> ListLength
+    ensures { λ r. ⌜ r ≡ ListLength.Refused (record { refusal = refusal; index = 0 }) ⌝ }
+{
+    ListLength::Refused(ListRefused { refusal, index: 0 })
+}
+
+// The count is looked at before the cells, and both before the rows.
 fn sheet_length(rows: &[u64], count: usize, payload: &[u8], running: Running) -> ListLength
     ensures { λ r. ⌜ sizeSaid (running .status) r ≡ sheetSize (running .status) (now (payload .entry)) (now (rows .entry)) count ⌝ }
 {
     if !running.is_valid() {
-        return ListLength::Refused(ListRefused {
-            refusal: Refusal::RunningStatus,
-            index: 0,
-        });
+        return refused(Refusal::RunningStatus);
     }
     if CAPACITY < count {
-        return ListLength::Refused(ListRefused {
-            refusal: Refusal::TooManyEvents,
-            index: 0,
-        });
+        return refused(Refusal::TooManyEvents);
     }
     if rows.len() < count * WIDTH {
-        return ListLength::Refused(ListRefused {
-            refusal: Refusal::NoRoom,
-            index: 0,
-        });
+        return refused(Refusal::NoRoom);
     }
     measure_rows(rows, count, payload, running)
 }
