@@ -99,6 +99,7 @@ sheets : Sheets
 sheets =
     record {
       list-rows = λ κs a y z d e p q. writeLeft-identical (p ∙ sym q);
+      row-at = λ κs a y z d e p q. p ∙ sym q;
       rows-list = λ κs a y z d e p q. rowsTaken-injective (p ∙ sym q);
     }
 

@@ -69,16 +69,17 @@ module _ (rules : Rules) (bytes : List ℕ) where
           let all : take i es ≡ es = ap (λ (k : ℕ). take k es) e ∙ take-length es in
           g .buffer ∙ ap (λ (l : List (Event Span)). over (encodeList running (map (mapEvent (bytesOf bytes)) l)) before 0) all
 
-      pub going-more : (d : Event Span) (p : Past) (end : List ℕ) → i < length es → putLeft p end ≡ putEvent rules status bytes (getD es i d) out place
+      -- the next event is put, wherever the code takes it from
+      pub going-more : (d x : Event Span) → getD es i d ≡ x → (p : Past) (end : List ℕ) → i < length es → putLeft p end ≡ putEvent rules status bytes x out place
           → Going end (p .next) (p .running .status) (i + 1)
       unfolding mapEvent
-      going-more d p end more e =
+      going-more d x there p end more e =
           let own = mapEvent (bytesOf bytes) (getD es i d) in
           let next : front (i + 1) ≡ front i ++ encodeEvent status own = encode-next bytes es d running i more ∙ rw (g .after) in
           let long : length (front (i + 1)) ≡ length (front i) + length (encodeEvent status own) = ap length next ∙ length-append (front i) (encodeEvent status own) in
           let fits : place + length (encodeEvent status own) ≤ length out = omega (arith, going-length, g .stands, long, front-shorter (i + 1), g .room) in
           let lawful : settled (legal rules bytes (getD es i d)) ≡ gives tt = rw (legal-at es i d (g .legal) more) in
-          let put = e ∙ put-legal rules bytes (getD es i d) status out place lawful fits in
+          let put = e ∙ ap (λ (y : Event Span). putEvent rules status bytes y out place) (sym there) ∙ put-legal rules bytes (getD es i d) status out place lawful fits in
           let at : place ≡ 0 + length (front i) = omega (arith, g .stands) in
           record {
             within = omega arith;

@@ -24,10 +24,6 @@ use Rattle.measure.specs.declared.length.Size.{Size}
 use Rattle.measure.specs.declared.length.EventLength.{EventLength}
 use Rattle.measure.specs.declared.length.EventLength.the-variants as event
 use Rattle.measure.proofs.Sized.{size-legal, sized-legal, sized-refused}
-use Rattle.event.specs.Event.{eventOf}
-use Rattle.event.specs.declared.track_event.TrackEvent.{TrackEvent}
-use Rattle.track.proofs.Held.{past}
-use Rattle.track.proofs.Counted.{counting, counted-length, counted-at}
 use Rattle.lengths.proofs.Most.{most, event-most}
 
 -- an answer that is settled gave something
@@ -104,23 +100,22 @@ module _ (rules : Rules) (bytes : List ℕ) (running : ℕ) (es : List (Event Sp
             small = omega (arith, h .small, one-most);
           }
 
--- the same of the records that the code holds, at the one that was measured
-module _ (rules : Rules) (bytes : List ℕ) (running : ℕ) (records : List TrackEvent) (count : ℕ) (long : count ≤ length records) {n status i : ℕ}
-    (h : Seen rules bytes running (counting records count) n status i)
-    (more : i < count)
+-- the same of an event that stands there, wherever the code takes it from
+module _ (rules : Rules) (bytes : List ℕ) (running : ℕ) (es : List (Event Span)) {n status i : ℕ}
+    (h : Seen rules bytes running es n status i)
+    (more : i < length es)
+    (d e : Event Span)
+    (there : getD es i d ≡ e)
     (a : EventLength)
-    (said : lengthSaid a ≡ eventSize rules status bytes (eventOf (getD records i past))) where
-  inside : i < length (counting records count)
-  inside = omega (arith, counted-length records count long)
+    (said : lengthSaid a ≡ eventSize rules status bytes e) where
+  said-there : lengthSaid a ≡ eventSize rules status bytes (getD es i d)
+  said-there = said ∙ ap (eventSize rules status bytes) (sym there)
 
-  said-there : lengthSaid a ≡ eventSize rules status bytes (getD (counting records count) i (eventOf past))
-  said-there = said ∙ ap (eventSize rules status bytes) (sym (counted-at records count i more))
-
-  pub seen-illegal : (m : Refusal) → a ≡ event.Refused m → unsized running (numberOf m) i ≡ sizeChecked running (check rules bytes 0 (counting records count))
-  seen-illegal = one-illegal rules bytes running (counting records count) h inside (eventOf past) a said-there
+  pub seen-illegal : (m : Refusal) → a ≡ event.Refused m → unsized running (numberOf m) i ≡ sizeChecked running (check rules bytes 0 es)
+  seen-illegal = one-illegal rules bytes running es h more d a said-there
 
   pub seen-most : (s : Size) → a ≡ event.Length s → s .length ≤ most
-  seen-most = one-most rules bytes running (counting records count) h inside (eventOf past) a said-there
+  seen-most = one-most rules bytes running es h more d a said-there
 
-  pub seen-more : (s : Size) → a ≡ event.Length s → Seen rules bytes running (counting records count) (n + s .length) (s .running .status) (i + 1)
-  seen-more = one-more rules bytes running (counting records count) h inside (eventOf past) a said-there
+  pub seen-more : (s : Size) → a ≡ event.Length s → Seen rules bytes running es (n + s .length) (s .running .status) (i + 1)
+  seen-more = one-more rules bytes running es h more d a said-there

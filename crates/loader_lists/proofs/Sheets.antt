@@ -20,6 +20,11 @@ use Rattle.sheet_back.specs.SheetList.{sheetList}
 use Rattle.loader.specs.Entry.{anyRules}
 use Rattle.loader_lists.specs.Lists.{stopNumber, sheetPut, sheetSize, sheetWritten}
 
+-- a list counts the events that it was made of
+pub held-events : (most : ℕ) (es : List (Event Span)) → take (holding most es .count) (holding most es .records) ≡ es
+unfolding holding
+held-events most es = take-append-seam es _
+
 module _ (running : ℕ) (payload cells : List ℕ) (count : ℕ) where
   pub size-invalid : isRunning running ≡ false → unsized running 1 0 ≡ sheetSize running payload cells count
   unfolding sheetSize
@@ -64,8 +69,7 @@ module _ (l : ListAt) (r : ReadList) (e : listRead r ≡ heldAs capacity l) wher
   read-running = ap (λ (h : ListHeld). h .running) e
 
   read-events : take (r .list .count) (map eventOf (r .list .records)) ≡ l .events
-  unfolding holding
-  read-events = ap (λ (h : ListHeld). take (h .list .count) (h .list .records)) e ∙ take-append-seam (l .events) _
+  read-events = ap (λ (h : ListHeld). take (h .list .count) (h .list .records)) e ∙ held-events capacity (l .events)
 
   pub read-put : (cells : List ℕ) (w : Written) → w ≡ put (sheetOf (take (r .list .count) (map eventOf (r .list .records)))) cells 0 → w ≡ sheetPut l cells
   read-put cells w p = p ∙ ap (λ (es : List (Event Span)). put (sheetOf es) cells 0) read-events

@@ -1,37 +1,92 @@
-// Measuring and writing a sheet's list. Its count is looked at before its cells, and both before its events.
+// Measuring and writing a sheet's list, row by row: no list is made of the rows.
 ghost use mathlib.Core.Path.{_≡_};
+ghost use mathlib.Core.List.{map};
+ghost use Prim.Native.Nat.{_*_, _≤_};
+ghost use lib.ListN.{length};
+ghost use Rattle.smf.specs.Write.{over};
+ghost use Rattle.smf.specs.Event.{mapEvent, bytesOf};
+ghost use Rattle.smf.specs.Lists.{RecordsLegal, check, encodeList, sizeChecked};
+ghost use Rattle.event.specs.Event.{eventOf};
+ghost use Rattle.track.specs.List.{capacity};
+ghost use Rattle.rows_back.specs.RowEvent.{rowEvent};
+ghost use Rattle.sheet.specs.Sheet.{width};
+ghost use Rattle.sheet_back.specs.SheetList.{rowAt, sheetEvents};
 ghost use Rattle.lengths.specs.Lengths.{sizeSaid};
 ghost use Rattle.compose.specs.Written.{wroteList};
+ghost use Rattle.loader.specs.Entry.{anyRules};
 ghost use Rattle.loader_lists.specs.Lists.{sheetSize, sheetWritten, numberAnswered, lengthLeft, indexLeft};
 use compose::WroteList;
-use compose::write_list;
+use event::track_event::TrackEvent;
 use lengths::ListLength;
 use lengths::ListRefused;
-use lengths::list_length;
 use loader::any_rules;
+use measure::length::EventLength;
+use measure::length::Size;
+use measure::length::measure;
 use number::rules::Running;
+use put::put_event;
 use refusal::Refusal;
-use sheet_back::Rows;
-use sheet_back::rows_list;
+use rows_back::row_event;
+use sheet::WIDTH;
+use sheet_back::row_at;
+use track::list::CAPACITY;
 
+// The event of a row.
+fn event_at(rows: &[u64], index: usize) -> TrackEvent
+    requires { ⌜ index ≤ capacity ⌝ }
+    ensures { λ r. ⌜ eventOf r ≡ rowEvent (rowAt (now (rows .entry)) (index * width)) ⌝ }
+{
+    row_event(row_at(rows, index * WIDTH))
+}
+
+// Of rows that are there, and no more than a list holds.
+fn measure_rows(rows: &[u64], count: usize, payload: &[u8], running: Running) -> ListLength
+    requires { ⌜ (count ≤ capacity) × (count * width ≤ length (now rows)) ⌝ }
+    ensures { λ r. ⌜ sizeSaid (running .status) r ≡ sizeChecked (running .status) (check anyRules (now (payload .entry)) 0 (sheetEvents count (now (rows .entry)))) ⌝ }
+{
+    let rules = any_rules();
+    let mut length: usize = 0;
+    let mut status = running.status;
+    let mut index: usize = 0;
+    while index < count {
+        match measure(event_at(rows, index), Running { status }, rules, payload) {
+            EventLength::Refused(refusal) => {
+                return ListLength::Refused(ListRefused { refusal, index });
+            }
+            EventLength::Length(size) => {
+                length += size.length;
+                status = size.running.status;
+                index += 1;
+            }
+        }
+    }
+    ListLength::Length(Size {
+        length,
+        running: Running { status },
+    })
+}
+
+// Before any event is looked at.
+fn refused(refusal: Refusal) -> ListLength
+    ensures { λ r. ⌜ r ≡ ListLength.Refused (record { refusal = refusal; index = 0 }) ⌝ }
+{
+    ListLength::Refused(ListRefused { refusal, index: 0 })
+}
+
+// The count is looked at before the cells, and both before the rows.
 fn sheet_length(rows: &[u64], count: usize, payload: &[u8], running: Running) -> ListLength
     ensures { λ r. ⌜ sizeSaid (running .status) r ≡ sheetSize (running .status) (now (payload .entry)) (now (rows .entry)) count ⌝ }
 {
     if !running.is_valid() {
-        return ListLength::Refused(ListRefused {
-            refusal: Refusal::RunningStatus,
-            index: 0,
-        });
+        return refused(Refusal::RunningStatus);
     }
-    let taken = rows_list(rows, count);
-    let rows = taken.rows;
-    match rows {
-        Rows::Refused(refusal) => ListLength::Refused(ListRefused { refusal, index: 0 }),
-        Rows::Enough => {
-            let list = taken.list;
-            list_length(list, running, any_rules(), payload)
-        }
+    if CAPACITY < count {
+        return refused(Refusal::TooManyEvents);
     }
+    if rows.len() < count * WIDTH {
+        return refused(Refusal::NoRoom);
+    }
+    measure_rows(rows, count, payload, running)
 }
 
 // How many bytes the events of so many rows have from a running status, and the running status after them.
@@ -66,6 +121,25 @@ pub extern "C" fn apk_list_length(
     }
 }
 
+// One event behind the other, of rows that are there, legal and have room.
+fn put_rows(rows: &[u64], count: usize, payload: &[u8], running: Running, out: &mut [u8])
+    requires { ⌜ (count ≤ capacity) × (count * width ≤ length (now rows)) × RecordsLegal anyRules (now payload) (sheetEvents count (now rows)) × (length (encodeList (running .status) (map (mapEvent (bytesOf (now payload))) (sheetEvents count (now rows)))) ≤ length (now out)) ⌝ }
+    ensures { λ r. ⌜ now (out .exit) ≡ over (encodeList (running .status) (map (mapEvent (bytesOf (now (payload .entry)))) (sheetEvents count (now (rows .entry))))) (now (out .entry)) 0 ⌝ }
+{
+    let rules = any_rules();
+    let mut place: usize = 0;
+    let mut status = running.status;
+    let mut index: usize = 0;
+    while index < count {
+        let event = event_at(rows, index);
+        let past = put_event(event, Running { status }, rules, payload, out, place);
+        place = past.next;
+        status = past.running.status;
+        index += 1;
+    }
+}
+
+// The room is looked at last.
 fn sheet_write(
     rows: &[u64],
     count: usize,
@@ -75,19 +149,17 @@ fn sheet_write(
 ) -> WroteList
     ensures { λ r. ⌜ wroteList (running .status) r (now (out .exit)) ≡ sheetWritten (running .status) (now (payload .entry)) (now (rows .entry)) count (now (out .entry)) ⌝ }
 {
-    if !running.is_valid() {
-        return WroteList::Refused(ListRefused {
-            refusal: Refusal::RunningStatus,
-            index: 0,
-        });
-    }
-    let taken = rows_list(rows, count);
-    let rows = taken.rows;
-    match rows {
-        Rows::Refused(refusal) => WroteList::Refused(ListRefused { refusal, index: 0 }),
-        Rows::Enough => {
-            let list = taken.list;
-            write_list(list, running, any_rules(), payload, out)
+    match sheet_length(rows, count, payload, running) {
+        ListLength::Refused(n) => WroteList::Refused(n),
+        ListLength::Length(size) => {
+            if out.len() < size.length {
+                return WroteList::Refused(ListRefused {
+                    refusal: Refusal::NoRoom,
+                    index: 0,
+                });
+            }
+            put_rows(rows, count, payload, running, out);
+            WroteList::Length(size)
         }
     }
 }

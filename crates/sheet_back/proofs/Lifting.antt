@@ -4,7 +4,7 @@ use mathlib.Core.List.{List, [], _∷_, _++_, map, append-assoc}
 use Prim.Native.Nat.{ℕ, zero, suc, _+_, _-_, _*_, _≤_, _<_}
 use native.Mathlib.Omega.{arith}
 use native.Mathlib.Numerals.{add-one}
-use lib.ListN.{length, take, drop, set, replicate, length-append, length-map, length-replicate}
+use lib.ListN.{length, take, drop, getD, set, replicate, length-append, length-map, length-replicate}
 use lib.Seq.{set-at, drop-drop}
 use borrow.Author.Tests.{le-leb, lt-leb}
 use Rattle.smf.specs.Answer.{Answer, gives, refuses}
@@ -16,7 +16,7 @@ use Rattle.event.specs.declared.track_event.TrackEvent.{TrackEvent}
 use Rattle.track.proofs.Held.{map-set}
 use Rattle.rows_back.specs.RowEvent.{rowEvent}
 use Rattle.sheet.specs.Sheet.{width}
-use Rattle.sheet_back.specs.SheetList.{sheetEvents, sheetList}
+use Rattle.sheet_back.specs.SheetList.{rowAt, sheetEvents, sheetList}
 use Rattle.sheet_back.specs.Taken.{Taken, taken}
 
 pub events-length : (n : ℕ) (cells : List ℕ) → length (sheetEvents n cells) ≡ n
@@ -24,15 +24,38 @@ unfolding sheetEvents
 events-length zero cells = refl
 events-length (suc n) cells = ap suc (events-length n (drop width cells))
 
+-- the cells of a row, from those of the first on and from those of the second on
+row-on : (n : ℕ) (cells : List ℕ) → drop (n * width) (drop width cells) ≡ drop (suc n * width) cells
+row-on n cells = let on : width + n * width ≡ suc n * width = omega arith in drop-drop (n * width) width cells ∙ ap (λ (k : ℕ). drop k cells) on
+
 -- one row more, behind
 events-next : (n : ℕ) (cells : List ℕ) → sheetEvents (suc n) cells ≡ sheetEvents n cells ++ (rowEvent (take width (drop (n * width) cells)) ∷ [])
 unfolding sheetEvents
 events-next zero cells = refl
 events-next (suc n) cells =
-    let on : width + n * width ≡ suc n * width = omega arith in
     ap (λ (l : List (smf.Event Span)). rowEvent (take width cells) ∷ l)
-    (events-next n (drop width cells)
-    ∙ ap (λ (l : List ℕ). sheetEvents n (drop width cells) ++ (rowEvent (take width l) ∷ [])) (drop-drop (n * width) width cells ∙ ap (λ (k : ℕ). drop k cells) on))
+    (events-next n (drop width cells) ∙ ap (λ (l : List ℕ). sheetEvents n (drop width cells) ++ (rowEvent (take width l) ∷ [])) (row-on n cells))
+
+-- each row is its event
+events-at : (n : ℕ) (cells : List ℕ) (i : ℕ) (d : smf.Event Span) → i < n → getD (sheetEvents n cells) i d ≡ rowEvent (take width (drop (i * width) cells))
+unfolding sheetEvents
+events-at zero cells i d h = absurd (omega arith)
+events-at (suc n) cells zero d h = refl
+events-at (suc n) cells (suc i) d h = events-at n (drop width cells) i d (omega arith) ∙ ap (λ (l : List ℕ). rowEvent (take width l)) (row-on i cells)
+
+-- a row that is there, and one that is not
+module _ (cells : List ℕ) (at : ℕ) where
+  pub row-there : at + width ≤ length cells → rowAt cells at ≡ take width (drop at cells)
+  unfolding rowAt
+  row-there h = rw (le-leb _ _ h)
+
+  pub row-beyond : length cells < at + width → replicate width 0 ≡ rowAt cells at
+  unfolding rowAt
+  row-beyond h = rw (lt-leb _ _ h)
+
+-- the event of a row is the list's, where the cells are enough
+pub event-there : (n : ℕ) (cells : List ℕ) (i : ℕ) (d : smf.Event Span) → n * width ≤ length cells → i < n → getD (sheetEvents n cells) i d ≡ rowEvent (rowAt cells (i * width))
+event-there n cells i d enough more = events-at n cells i d more ∙ ap rowEvent (sym (row-there cells (i * width) (omega arith)))
 
 module _ (cap : ℕ) (cells : List ℕ) where
   pub record Lifting (xs : List TrackEvent) (at i : ℕ) : Type 0 where
@@ -78,18 +101,17 @@ module _ (cap : ℕ) (cells : List ℕ) where
 
   -- what the count and the cells say
   module _ (count : ℕ) where
-    pub too-many : cap < count → taken cap (refuses 21) ≡ taken cap (sheetList cap cells count)
+    pub too-many : cap < count → sheetList cap cells count ≡ refuses 21
     unfolding sheetList
     too-many h = rw (lt-leb _ _ h)
 
-    pub too-few : count ≤ cap → length cells < count * width → taken cap (refuses 20) ≡ taken cap (sheetList cap cells count)
+    pub too-few : count ≤ cap → length cells < count * width → sheetList cap cells count ≡ refuses 20
     unfolding sheetList
     too-few h g = rw (le-leb _ _ h, lt-leb _ _ g)
 
-    pub enough : count ≤ cap → count * width ≤ length cells → (held : Held) → held ≡ holding cap (sheetEvents count cells)
-        → record { list = held; answer = gives tt } ≡ taken cap (sheetList cap cells count)
+    pub enough : count ≤ cap → count * width ≤ length cells → sheetList cap cells count ≡ gives (holding cap (sheetEvents count cells))
     unfolding sheetList
-    enough h g held e = rw (le-leb _ _ h, le-leb _ _ g, e)
+    enough h g = rw (le-leb _ _ h, le-leb _ _ g)
 
 -- what an answer says of the rows: their list, or their refusal
 module _ (cap : ℕ) (a : Answer Held) (t : Taken) (e : t ≡ taken cap a) where

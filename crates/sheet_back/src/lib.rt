@@ -7,7 +7,7 @@ ghost use Rattle.smf.specs.Lists.{holding};
 ghost use Rattle.refusal.specs.Refusal.{numberOf};
 ghost use Rattle.track.specs.List.{capacity, heldOf};
 ghost use Rattle.sheet.specs.Sheet.{width};
-ghost use Rattle.sheet_back.specs.SheetList.{sheetEvents, sheetList};
+ghost use Rattle.sheet_back.specs.SheetList.{rowAt, sheetEvents, sheetList};
 ghost use Rattle.sheet_back.specs.Taken.{taken, rowsTaken};
 use refusal::Refusal;
 use rows_back::row_event;
@@ -27,7 +27,8 @@ pub struct RowsList {
     pub rows: Rows,
 }
 
-fn row_at(rows: &[u64], at: usize) -> [u64; 10]
+// Of cells that are there.
+fn cells_at(rows: &[u64], at: usize) -> [u64; 10]
     requires { ⌜ at + width ≤ length (now rows) ⌝ }
     ensures { λ r. ⌜ r ≡ take width (drop at (now (rows .entry))) ⌝ }
 {
@@ -45,6 +46,19 @@ fn row_at(rows: &[u64], at: usize) -> [u64; 10]
     ]
 }
 
+// The row that starts at a cell; zeros where its ten cells are not all there.
+pub fn row_at(rows: &[u64], at: usize) -> [u64; 10]
+    ensures { λ r. ⌜ r ≡ rowAt (now (rows .entry)) at ⌝ }
+{
+    if rows.len() < WIDTH {
+        return [0; 10];
+    }
+    if rows.len() - WIDTH < at {
+        return [0; 10];
+    }
+    cells_at(rows, at)
+}
+
 // One event behind the other, of cells that are enough.
 fn take_rows(rows: &[u64], count: usize) -> EventList
     requires { ⌜ (count ≤ capacity) × (count * width ≤ length (now rows)) ⌝ }
@@ -54,7 +68,7 @@ fn take_rows(rows: &[u64], count: usize) -> EventList
     let mut at: usize = 0;
     let mut i: usize = 0;
     while i < count {
-        let event = row_event(row_at(rows, at));
+        let event = row_event(cells_at(rows, at));
         list.records[i] = event;
         at += WIDTH;
         i += 1;

@@ -1,14 +1,11 @@
 -- The loop that writes a list.
-use mathlib.Core.Path.{_≡_, sym, ap, _∙_}
+use mathlib.Core.Path.{_≡_}
 use Prim.Native.Nat.{_-_, _≤_}
 use native.Mathlib.Omega.{arith}
 use lib.ListN.{length}
 use borrow.Author.Needs.{needs}
-use Rattle.smf.specs.Place.{Span}
-use Rattle.smf.specs.Event as smf
 use Rattle.number.specs.Rules.{rulesOf}
 use Rattle.event.specs.Event.{eventOf}
-use Rattle.put.specs.Put.{putEvent}
 use Rattle.track.specs.List.{capacity}
 use Rattle.track.proofs.Held.{past, unmapped}
 use Rattle.track.proofs.Counted.{counting, counted-length, counted-at}
@@ -56,8 +53,7 @@ loop-again c =
       l .inv .0,
       omega arith,
       going-more (rulesOf (a .rules)) (a .bytes .now) (a .running .status) (counting (a .t1 .records) (a .t1 .count)) (a .out .now) (l .inv .2)
-          (eventOf past) (m .put-event .result) _ (omega (arith, counted-length (a .t1 .records) (a .t1 .count) (l .inv .0)))
-          (m .put-event .ensures ∙ ap (λ (e : smf.Event Span). putEvent (rulesOf (a .rules)) (l .status) (a .bytes .now) e (l .out) (l .place)) (sym (counted-at (a .t1 .records) (a .t1 .count) (l .index) i))),
+          (eventOf past) _ (counted-at (a .t1 .records) (a .t1 .count) (l .index) i) (m .put-event .result) _ (omega (arith, counted-length (a .t1 .records) (a .t1 .count) (l .inv .0))) (m .put-event .ensures),
     )
 
 same-length : tie.Need-same-length Inv-loop μ-loop

@@ -1,13 +1,14 @@
 -- The loop that measures a list.
 use mathlib.Core.Path.{_≡_}
-use Prim.Native.Nat.{_-_, _≤_}
+use Prim.Native.Nat.{_-_, _≤_, _<_}
 use native.Mathlib.Omega.{arith}
-use lib.ListN.{length}
+use lib.ListN.{length, getD}
 use borrow.Author.Needs.{needs}
 use Rattle.number.specs.Rules.{rulesOf}
+use Rattle.event.specs.Event.{eventOf}
 use Rattle.track.specs.List.{capacity}
-use Rattle.track.proofs.Held.{unmapped}
-use Rattle.track.proofs.Counted.{counting, counted-length}
+use Rattle.track.proofs.Held.{past, unmapped}
+use Rattle.track.proofs.Counted.{counting, counted-length, counted-at}
 use Rattle.lengths.proofs.Measuring.{Seen, seen-first, seen-last, seen-illegal, seen-most, seen-more}
 use Rattle.lengths.proofs.measure_all.Statement.{statement}
 use Rattle.lengths.proofs.measure_all.Tie as tie
@@ -36,6 +37,20 @@ element-copy-out-measure c = search needs
 measure-requires : tie.Need-measure-requires Inv-loop μ-loop
 measure-requires c κs = search needs
 
+-- the record that is measured is one that counts
+inside : (c : tie.After-measure Inv-loop μ-loop) → let l = c .before .before .before .loop in let a = c .before .before .before .before .before .args in l .index < length (counting (a .t1 .records) (a .t1 .count))
+inside c =
+    let l = c .before .before .before .loop in
+    let a = c .before .before .before .before .before .args in
+    omega (arith, counted-length (a .t1 .records) (a .t1 .count) (l .inv .0), c .before .before .loop-test .taken)
+
+there : (c : tie.After-measure Inv-loop μ-loop) → let l = c .before .before .before .loop in let a = c .before .before .before .before .before .args in
+    getD (counting (a .t1 .records) (a .t1 .count)) (l .index) (eventOf past) ≡ eventOf (getD (a .t1 .records) (l .index) past)
+there c =
+    let l = c .before .before .before .loop in
+    let a = c .before .before .before .before .before .args in
+    counted-at (a .t1 .records) (a .t1 .count) (l .index) (c .before .before .loop-test .taken)
+
 enum-known-refusal : tie.Need-enum-known-refusal Inv-loop μ-loop
 enum-known-refusal c = search needs
 
@@ -44,7 +59,7 @@ returns c =
     let m = c .before .before .before in
     let l = m .before .before .before .loop in
     let a = m .before .before .before .before .before .args in
-    seen-illegal (rulesOf (a .rules)) (a .bytes .now) (a .running .status) (a .t1 .records) (a .t1 .count) (l .inv .0) (l .inv .2) (m .before .before .loop-test .taken) (m .measure .result) (m .measure .ensures)
+    seen-illegal (rulesOf (a .rules)) (a .bytes .now) (a .running .status) (counting (a .t1 .records) (a .t1 .count)) (l .inv .2) (inside m) (eventOf past) _ (there m) (m .measure .result) (m .measure .ensures)
     (c .before .refusal .given .0 .0) (c .before .refusal .given .1)
 
 enum-known-size : tie.Need-enum-known-size Inv-loop μ-loop
@@ -55,7 +70,7 @@ add-length c =
     let m = c .before .before .before .before in
     let l = m .before .before .before .loop in
     let a = m .before .before .before .before .before .args in
-    let s = seen-most (rulesOf (a .rules)) (a .bytes .now) (a .running .status) (a .t1 .records) (a .t1 .count) (l .inv .0) (l .inv .2) (m .before .before .loop-test .taken) (m .measure .result) (m .measure .ensures)
+    let s = seen-most (rulesOf (a .rules)) (a .bytes .now) (a .running .status) (counting (a .t1 .records) (a .t1 .count)) (l .inv .2) (inside m) (eventOf past) _ (there m) (m .measure .result) (m .measure .ensures)
     (c .before .before .size .given .0 .0) (c .before .before .size .given .1) in
     omega (arith, s, l .inv .2 .small, m .before .before .before .before .before .pre)
 
@@ -72,7 +87,7 @@ loop-again c =
     let a = m .before .before .before .before .before .args in (
       l .inv .0,
       omega arith,
-      seen-more (rulesOf (a .rules)) (a .bytes .now) (a .running .status) (a .t1 .records) (a .t1 .count) (l .inv .0) (l .inv .2) (m .before .before .loop-test .taken) (m .measure .result) (m .measure .ensures)
+      seen-more (rulesOf (a .rules)) (a .bytes .now) (a .running .status) (counting (a .t1 .records) (a .t1 .count)) (l .inv .2) (inside m) (eventOf past) _ (there m) (m .measure .result) (m .measure .ensures)
           (c .before .before .size .given .0 .0) (c .before .before .size .given .1),
     )
 

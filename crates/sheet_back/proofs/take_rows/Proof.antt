@@ -21,8 +21,8 @@ loop-holds c =
     let l = c .new .result in
     (omega arith, lifting-first capacity _ (l .records) (l .count) (c .new .ensures))
 
-row-at-requires : tie.Need-row-at-requires Inv-loop μ-loop
-row-at-requires c κs =
+cells-at-requires : tie.Need-cells-at-requires Inv-loop μ-loop
+cells-at-requires c κs =
     let l = c .before .loop in
     omega (arith, l .inv .1 .stands, c .before .before .before .before .pre .1)
 
@@ -53,7 +53,7 @@ loop-again c =
     let l = c .before .before .before .loop in
     let p = c .before .before .before .before .before .before .pre in (
       omega arith,
-      lifting-more capacity _ (l .inv .1) (c .before .row-at .result) (c .row-event .result) (omega (arith, p .0)) (c .before .row-at .ensures) (c .row-event .ensures),
+      lifting-more capacity _ (l .inv .1) (c .before .cells-at .result) (c .row-event .result) (omega (arith, p .0)) (c .before .cells-at .ensures) (c .row-event .ensures),
     )
 
 returns : tie.Need-returns Inv-loop μ-loop
@@ -69,7 +69,7 @@ take-rows-spec =
     μ-loop
     new-requires
     loop-holds
-    row-at-requires
+    cells-at-requires
     row-event-requires
     mul-event
     element-set-from-event

@@ -1,73 +1,76 @@
--- A sheet is written: the running status and the rows first, then the list.
-use mathlib.Core.Path.{sym, ap, _∙_}
-use mathlib.Core.List.{map}
-use borrow.Author.Tests.{not-true, not-false}
-use Rattle.smf.specs.Answer.{Rules}
-use Rattle.smf.specs.Lists.{writeList}
-use Rattle.event.specs.Event.{eventOf}
-use Rattle.track.specs.List.{capacity}
-use Rattle.sheet_back.proofs.Known.{is-list, is-none}
-use Rattle.loader_lists.proofs.Sheets.{write-invalid, write-none, write-list}
+-- A sheet is written where it has a size and there is room for it.
+use mathlib.Core.Path.{_≡_, sym, ap, _∙_}
+use native.Mathlib.Omega.{arith}
 use borrow.Author.Needs.{needs}
+use Rattle.smf.specs.Lists.{wrote}
+use Rattle.refusal.specs.Refusal.{numberOf}
+use Rattle.lengths.specs.Lengths.{sizeSaid}
+use Rattle.loader_lists.specs.Lists.{sheetSize}
+use Rattle.loader_lists.proofs.Sizes.{unsized-left, sized, sized-legal, sized-own, sized-full, sized-put}
 use Rattle.loader_lists.proofs.write.sheet_write.Statement.{statement}
 use Rattle.loader_lists.proofs.write.sheet_write.Tie as tie
 
-is-valid-requires : tie.Need-is-valid-requires
-is-valid-requires c κs = search needs
+sheet-length-requires : tie.Need-sheet-length-requires
+sheet-length-requires c κs = search needs
+
+enum-known-n : tie.Need-enum-known-n
+enum-known-n c = search needs
+
+enum-known-size : tie.Need-enum-known-size
+enum-known-size c = search needs
+
+-- the rows have this size
+size-there : (c : tie.After-size)
+    → let a = c .before .before .before .before .before .before .args in
+    let s = c .size .given .0 .0 in
+    record { answer = wrote (s .length); running = s .running .status } ≡ sheetSize (a .running .status) (a .payload .now) (a .rows .now) (a .count)
+size-there c =
+    let a = c .before .before .before .before .before .before .args in
+    sym (ap (sizeSaid (a .running .status)) (c .size .given .1)) ∙ c .before .before .sheet-length .ensures
 
 returns : tie.Need-returns
 returns c =
-    let v = c .before .is-valid in
-    write-invalid _ _ _ _ _ (sym (v .ensures) ∙ not-true (v .result) (c .if1 .taken))
+    let z = c .before .before .before in
+    let a = z .before .before .before .before .before .before .args in
+    sized-full (a .running .status) (a .payload .now) (a .rows .now) (a .count) _ _ (size-there z) (a .out .now) (c .if1 .taken)
 
-rows-list-requires : tie.Need-rows-list-requires
-rows-list-requires c κs = search needs
-
-enum-known-rows : tie.Need-enum-known-rows
-enum-known-rows c = search needs
-
-enum-told : tie.Need-enum-told
-enum-told c = search needs
-
-any-rules-requires : tie.Need-any-rules-requires
-any-rules-requires c κs = search needs
-
-write-list-requires : tie.Need-write-list-requires
-write-list-requires c κs = search needs
+put-rows-requires : tie.Need-put-rows-requires
+put-rows-requires c κs =
+    let z = c .before .before .before .before in
+    let a = z .before .before .before .before .before .before .args in
+    let w = sized (a .running .status) (a .payload .now) (a .rows .now) (a .count) _ _ (size-there z) in (
+      w .few,
+      w .enough,
+      sized-legal (a .running .status) (a .payload .now) (a .rows .now) (a .count) _ _ (size-there z),
+      omega (arith, sized-own (a .running .status) (a .payload .now) (a .rows .now) (a .count) _ _ (size-there z), c .before .if1 .left),
+    )
 
 returns-2 : tie.Need-returns-2
 returns-2 c =
-    let v = c .before .before .before .before .before .is-valid in
-    let r = c .before .before .before .rows-list in
-    let a = c .before .before .before .before .before .before .before .before .before .args in
-    write-none _ _ (a .rows .now) (a .count) _ (sym (v .ensures) ∙ not-false (v .result) (c .before .before .before .before .if1 .left))
-    (is-none (a .rows .now) (a .count) (r .result) (r .ensures) (c .before .rows .given .0 .0) (c .before .rows .given .1))
+    let a = c .before .before .before .before .before .before .before .args in
+    let n = c .before .n .given .0 .0 in
+    unsized-left (a .running .status) (a .payload .now) (a .rows .now) (a .count) (a .out .now) (numberOf (n .refusal)) (n .index)
+    (sym (ap (sizeSaid (a .running .status)) (c .before .n .given .1)) ∙ c .before .before .before .sheet-length .ensures)
 
 same-length : tie.Need-same-length
 same-length c = search needs
 
 returns-3 : tie.Need-returns-3
 returns-3 c =
-    let v = c .before .before .before .before .before .before .before .before .before .before .is-valid in
-    let r = c .before .before .before .before .before .before .before .before .rows-list in
-    let a = c .before .before .before .before .before .before .before .before .before .before .before .before .before .before .args in
-    let l = r .result .list in
-    c .before .before .write-list .ensures
-    ∙ ap (λ (rules : Rules). writeList rules capacity (a .running .status) (a .payload .now) (map eventOf (l .records)) (l .count) (a .out .now)) (c .before .before .before .before .any-rules .ensures)
-    ∙ write-list _ _ (a .rows .now) (a .count) _ (sym (v .ensures) ∙ not-false (v .result) (c .before .before .before .before .before .before .before .before .before .if1 .left))
-    (is-list (a .rows .now) (a .count) (r .result) (r .ensures) (c .before .before .before .before .before .before .enum-told .given .1))
+    let p = c .before .before in
+    let z = p .before .before .before .before .before in
+    let a = z .before .before .before .before .before .before .args in
+    sized-put (a .running .status) (a .payload .now) (a .rows .now) (a .count) _ _ (size-there z) (a .out .now) (p .before .before .if1 .left) _ (p .put-rows .ensures)
 
 pub sheet-write-spec : {M : Type 1} → statement M
 sheet-write-spec =
     tie.close
     (tie.spec
-    is-valid-requires
+    sheet-length-requires
+    enum-known-n
+    enum-known-size
     returns
-    rows-list-requires
-    enum-known-rows
-    enum-told
-    any-rules-requires
-    write-list-requires
+    put-rows-requires
     returns-2
     same-length
     returns-3)

@@ -1,0 +1,80 @@
+-- The loop that writes rows.
+use mathlib.Core.Path.{_≡_, sym, ap, _∙_}
+use Prim.Native.Nat.{_-_, _≤_}
+use native.Mathlib.Omega.{arith}
+use borrow.Author.Needs.{needs}
+use Rattle.smf.specs.Answer.{Rules}
+use Rattle.smf.specs.Lists.{filler}
+use Rattle.event.specs.Event.{eventOf}
+use Rattle.put.specs.Put.{putEvent}
+use Rattle.sheet_back.specs.SheetList.{sheetEvents}
+use Rattle.sheet_back.proofs.Lifting.{events-length, event-there}
+use Rattle.compose.proofs.Going.{Going, going-first, going-length, going-last, going-more}
+use Rattle.loader.specs.Entry.{anyRules}
+use Rattle.loader_lists.proofs.write.put_rows.Statement.{statement}
+use Rattle.loader_lists.proofs.write.put_rows.Tie as tie
+
+abbrev Inv-loop : tie.InvT-loop
+Inv-loop rows count payload out₀ rules place₀ status₀ i₀ out place status i = (i ≤ count) × Going anyRules payload status₀ (sheetEvents count rows) out₀ out place status i
+
+abbrev μ-loop : tie.MeasureT-loop
+μ-loop rows count payload out₀ rules place₀ status₀ i₀ out place status i = count - i
+
+any-rules-requires : tie.Need-any-rules-requires Inv-loop μ-loop
+any-rules-requires c κs = search needs
+
+loop-holds : tie.Need-loop-holds Inv-loop μ-loop
+loop-holds c =
+    let p = c .before .before .before .before .pre in
+    (omega arith, going-first _ _ _ _ _ (p .2) (p .3))
+
+event-at-requires : tie.Need-event-at-requires Inv-loop μ-loop
+event-at-requires c κs = omega (arith, c .before .before .before .before .before .before .pre .0)
+
+put-event-requires : tie.Need-put-event-requires Inv-loop μ-loop
+put-event-requires c κs = search needs
+
+add-index : tie.Need-add-index Inv-loop μ-loop
+add-index c = search needs
+
+loop-less : tie.Need-loop-less Inv-loop μ-loop
+loop-less c = search needs
+
+loop-again : tie.Need-loop-again Inv-loop μ-loop
+loop-again c =
+    let m = c .before .before in
+    let e = m .before .before .event-at in
+    let more = m .before .before .before .loop-test .taken in
+    let l = m .before .before .before .before .loop in
+    let s = m .before .before .before .before .before .before .before .before .before in
+    let a = s .args in (
+      omega arith,
+      going-more anyRules (a .payload .now) (a .running .status) (sheetEvents (a .count) (a .rows .now)) (a .out .now) (l .inv .1)
+          filler _ (event-there (a .count) (a .rows .now) (l .index) filler (s .pre .1) more ∙ sym (e .ensures)) (m .put-event .result) _ (omega (arith, events-length (a .count) (a .rows .now), more))
+          (m .put-event .ensures ∙ ap (λ (r : Rules). putEvent r (l .status) (a .payload .now) (eventOf (e .result)) (l .out) (l .place)) (m .before .before .before .before .before .any-rules .ensures)),
+    )
+
+same-length : tie.Need-same-length Inv-loop μ-loop
+same-length c = going-length _ _ _ _ _ (c .before .loop .inv .1)
+
+returns : tie.Need-returns Inv-loop μ-loop
+returns c =
+    let l = c .before .loop in
+    let a = c .before .before .before .before .before .before .args in
+    going-last anyRules (a .payload .now) (a .running .status) (sheetEvents (a .count) (a .rows .now)) (a .out .now) (l .inv .1) (omega (arith, events-length (a .count) (a .rows .now)))
+
+pub put-rows-spec : {M : Type 1} → statement M
+put-rows-spec =
+    tie.close
+    (tie.spec
+    Inv-loop
+    μ-loop
+    any-rules-requires
+    loop-holds
+    event-at-requires
+    put-event-requires
+    add-index
+    loop-less
+    loop-again
+    same-length
+    returns)
