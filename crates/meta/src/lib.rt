@@ -1,13 +1,16 @@
 // Meta messages. A payload is its range of the bytes lent.
 ghost use mathlib.Core.Path.{_≡_};
 ghost use Prim.Native.Nat.{_+_, _^_, _≤_, _<_};
-ghost use Rattle.smf.specs.Answer.{gives};
+ghost use lib.Dec.{eqb};
 ghost use lib.ListN.{length};
-ghost use Rattle.smf.specs.Kind.{trackNumberOf};
+ghost use Rattle.smf.specs.Answer.{pick, gives};
+ghost use Rattle.smf.specs.Kind.{trackNumberOf, midiChannel, midiPort};
+ghost use Rattle.smf.specs.Kind as kind;
 ghost use Rattle.smf.specs.Event.{mapMeta, bytesOf};
 ghost use Rattle.smf.specs.MetaAt.{metaAt, calledAt};
 ghost use Rattle.number.specs.Rules.{rulesOf};
-ghost use Rattle.meta.specs.Meta.{spanOf, numberMeta, metaPlaced, metaRead};
+ghost use Rattle.meta.specs.Meta.{spanOf, numberMeta, metaOf, metaPlaced, metaRead};
+ghost use Rattle.meta.specs.Narrow.{Narrow};
 use header::field::word;
 use header::signed::from_byte;
 use number::rules::Range;
@@ -82,42 +85,33 @@ fn track_number(raw: &[u8], load: Range) -> OptionU16
     }
 }
 
-// 20: a channel; lenient keeps the low bits.
-fn channel(raw: &[u8], load: Range, rules: Rules) -> ReadMeta
-    requires { ⌜ load .start + load .length ≤ length (now raw) ⌝ }
-    ensures { λ r. ⌜ metaRead r ≡ calledAt (rulesOf rules) (now (raw .entry)) 0x20 (spanOf load) ⌝ }
+// A channel or a port, by its type.
+fn narrow_kind(type_byte: u8, byte: u8) -> MetaMessage
+    ensures { λ r. ⌜ metaOf r ≡ pick (eqb «type_byte» 0x20) (midiChannel byte) (midiPort byte) ⌝ }
 {
-    let start = load.start;
-    if load.length < 1 {
-        return message(MetaMessage::Unknown(0x20, load), load);
+    if type_byte == 0x20 {
+        return MetaMessage::MidiChannel(u4(byte));
     }
-    let byte = raw[start];
-    if byte < 16 {
-        return message(MetaMessage::MidiChannel(u4(byte)), load);
-    }
-    if rules.strict {
-        return ReadMeta::Refused(Refusal::ChannelOrPort);
-    }
-    message(MetaMessage::MidiChannel(u4(byte % 16)), load)
+    MetaMessage::MidiPort(u7(byte))
 }
 
-// 21: a port; lenient keeps the low bits.
-fn port(raw: &[u8], load: Range, rules: Rules) -> ReadMeta
-    requires { ⌜ load .start + load .length ≤ length (now raw) ⌝ }
-    ensures { λ r. ⌜ metaRead r ≡ calledAt (rulesOf rules) (now (raw .entry)) 0x21 (spanOf load) ⌝ }
+// 20 and 21: a byte below a limit; lenient keeps the low bits.
+fn narrow(type_byte: u8, limit: u8, raw: &[u8], load: Range, rules: Rules) -> ReadMeta
+    requires { ⌜ (load .start + load .length ≤ length (now raw)) × (0 < limit) × Narrow «type_byte» limit ⌝ }
+    ensures { λ r. ⌜ metaRead r ≡ calledAt (rulesOf rules) (now (raw .entry)) «type_byte» (spanOf load) ⌝ }
 {
     let start = load.start;
     if load.length < 1 {
-        return message(MetaMessage::Unknown(0x21, load), load);
+        return message(MetaMessage::Unknown(type_byte, load), load);
     }
     let byte = raw[start];
-    if byte < 128 {
-        return message(MetaMessage::MidiPort(u7(byte)), load);
+    if byte < limit {
+        return message(narrow_kind(type_byte, byte), load);
     }
     if rules.strict {
         return ReadMeta::Refused(Refusal::ChannelOrPort);
     }
-    message(MetaMessage::MidiPort(u7(byte % 128)), load)
+    message(narrow_kind(type_byte, byte % limit), load)
 }
 
 // 51: three bytes, the highest first.
@@ -188,22 +182,21 @@ fn key_signature(raw: &[u8], load: Range, rules: Rules) -> ReadMeta
     message(MetaMessage::KeySignature(sharps, minor), load)
 }
 
-// 00 to 09: the track number and the text kinds.
-fn text(type_byte: u8, raw: &[u8], load: Range, rules: Rules) -> ReadMeta
-    requires { ⌜ (load .start + load .length ≤ length (now raw)) × («type_byte» < 10) ⌝ }
-    ensures { λ r. ⌜ metaRead r ≡ calledAt (rulesOf rules) (now (raw .entry)) «type_byte» (spanOf load) ⌝ }
+// 01 to 09.
+fn text(type_byte: u8, load: Range) -> MetaMessage
+    requires { ⌜ (1 ≤ «type_byte») × («type_byte» < 10) ⌝ }
+    ensures { λ r. ⌜ metaOf r ≡ kind.text «type_byte» (spanOf load) ⌝ }
 {
     match type_byte {
-        0x00 => message(MetaMessage::TrackNumber(track_number(raw, load)), load),
-        0x01 => message(MetaMessage::Text(load), load),
-        0x02 => message(MetaMessage::Copyright(load), load),
-        0x03 => message(MetaMessage::TrackName(load), load),
-        0x04 => message(MetaMessage::InstrumentName(load), load),
-        0x05 => message(MetaMessage::Lyric(load), load),
-        0x06 => message(MetaMessage::Marker(load), load),
-        0x07 => message(MetaMessage::CuePoint(load), load),
-        0x08 => message(MetaMessage::ProgramName(load), load),
-        _ => message(MetaMessage::DeviceName(load), load),
+        0x01 => MetaMessage::Text(load),
+        0x02 => MetaMessage::Copyright(load),
+        0x03 => MetaMessage::TrackName(load),
+        0x04 => MetaMessage::InstrumentName(load),
+        0x05 => MetaMessage::Lyric(load),
+        0x06 => MetaMessage::Marker(load),
+        0x07 => MetaMessage::CuePoint(load),
+        0x08 => MetaMessage::ProgramName(load),
+        _ => MetaMessage::DeviceName(load),
     }
 }
 
@@ -212,12 +205,15 @@ fn named(type_byte: u8, raw: &[u8], load: Range, rules: Rules) -> ReadMeta
     requires { ⌜ load .start + load .length ≤ length (now raw) ⌝ }
     ensures { λ r. ⌜ metaRead r ≡ calledAt (rulesOf rules) (now (raw .entry)) «type_byte» (spanOf load) ⌝ }
 {
+    if type_byte == 0x00 {
+        return message(MetaMessage::TrackNumber(track_number(raw, load)), load);
+    }
     if type_byte < 0x0A {
-        return text(type_byte, raw, load, rules);
+        return message(text(type_byte, load), load);
     }
     match type_byte {
-        0x20 => channel(raw, load, rules),
-        0x21 => port(raw, load, rules),
+        0x20 => narrow(0x20, 16, raw, load, rules),
+        0x21 => narrow(0x21, 128, raw, load, rules),
         0x2F => message(MetaMessage::EndOfTrack, load),
         0x51 => tempo(raw, load, rules),
         0x54 => smpte_offset(raw, load, rules),

@@ -4,28 +4,43 @@ use native.Mathlib.Omega.{arith}
 use denote.Ref.{now}
 use Rattle.smf.specs.Kind.{endOfTrack, sequencerSpecific, unknown}
 use Rattle.smf.specs.Event.{mapMeta}
-use Rattle.smf.proofs.CalledAt.{form-end, form-sequencer, form-unknown, called-is}
+use Rattle.smf.proofs.CalledAt.{form-number, form-channel, form-port, form-end, form-sequencer, form-unknown, called-is, called-text}
 use Rattle.number.specs.Rules.{rulesOf}
 use Rattle.meta.specs.Meta.{spanOf}
 use borrow.Author.Needs.{needs}
 use Rattle.meta.proofs.named.Statement.{statement}
 use Rattle.meta.proofs.named.Tie as tie
 
-text-requires : tie.Need-text-requires
-text-requires c κs = search needs
-
-returns : tie.Need-returns
-unfolding mapMeta
-returns c = c .text .ensures
-
-channel-requires : tie.Need-channel-requires
-channel-requires c κs = search needs
-
-port-requires : tie.Need-port-requires
-port-requires c κs = search needs
+track-number-requires : tie.Need-track-number-requires
+track-number-requires c κs = search needs
 
 message-requires : tie.Need-message-requires
 message-requires c κs = search needs
+
+returns : tie.Need-returns
+returns c =
+    let s = c .before .before .before .before in
+    c .message .ensures ∙ rw (c .before .before .if1 .taken, c .before .track-number .ensures) (called-is (rulesOf (s .args .rules)) (now (s .args .raw)) (λ i. c .before .before .before .shared-slice-known .given i .fits) (spanOf (s .args .load)) (s .pre) 0x00 _ (form-number _ _))
+
+text-requires : tie.Need-text-requires
+text-requires c κs = search needs
+
+message-requires-2 : tie.Need-message-requires-2
+message-requires-2 c κs = search needs
+
+returns-2 : tie.Need-returns-2
+returns-2 c =
+    let s = c .before .before .before .before .before in
+    c .message2 .ensures ∙ rw (c .before .text .ensures) (called-text (rulesOf (s .args .rules)) (now (s .args .raw)) (λ i. c .before .before .before .before .shared-slice-known .given i .fits) (spanOf (s .args .load)) (s .pre) _ (omega arith) (omega arith))
+
+narrow-requires : tie.Need-narrow-requires
+narrow-requires c κs = (c .before .before .before .before .pre, omega arith, form-channel)
+
+narrow-requires-2 : tie.Need-narrow-requires-2
+narrow-requires-2 c κs = (c .before .before .before .before .pre, omega arith, form-port)
+
+message-requires-3 : tie.Need-message-requires-3
+message-requires-3 c κs = search needs
 
 tempo-requires : tie.Need-tempo-requires
 tempo-requires c κs = search needs
@@ -39,64 +54,68 @@ time-signature-requires c κs = search needs
 key-signature-requires : tie.Need-key-signature-requires
 key-signature-requires c κs = search needs
 
-message-requires-2 : tie.Need-message-requires-2
-message-requires-2 c κs = search needs
+message-requires-4 : tie.Need-message-requires-4
+message-requires-4 c κs = search needs
 
-message-requires-3 : tie.Need-message-requires-3
-message-requires-3 c κs = search needs
-
-returns-2 : tie.Need-returns-2
-unfolding mapMeta
-returns-2 c = c .channel .ensures ∙ rw (c .before .match .keys1)
+message-requires-5 : tie.Need-message-requires-5
+message-requires-5 c κs = search needs
 
 returns-3 : tie.Need-returns-3
-unfolding mapMeta
-returns-3 c = c .port .ensures ∙ rw (c .before .match .keys2)
+returns-3 c = c .narrow .ensures ∙ rw (c .before .match .keys1)
 
 returns-4 : tie.Need-returns-4
-unfolding mapMeta
-returns-4 c = c .message .ensures ∙ rw (c .before .match .keys3) (called-is (rulesOf (c .before .before .before .before .args .rules)) (now (c .before .before .before .before .args .raw)) (λ i. c .before .before .before .shared-slice-known .given i .fits) (spanOf (c .before .before .before .before .args .load)) (c .before .before .before .before .pre) 0x2F endOfTrack (form-end _ _))
+returns-4 c = c .narrow2 .ensures ∙ rw (c .before .match .keys2)
 
 returns-5 : tie.Need-returns-5
 unfolding mapMeta
-returns-5 c = c .tempo .ensures ∙ rw (c .before .match .keys4)
+returns-5 c =
+    let s = c .before .before .before .before .before in
+    c .message3 .ensures ∙ rw (c .before .match .keys3) (called-is (rulesOf (s .args .rules)) (now (s .args .raw)) (λ i. c .before .before .before .before .shared-slice-known .given i .fits) (spanOf (s .args .load)) (s .pre) 0x2F endOfTrack (form-end _ _))
 
 returns-6 : tie.Need-returns-6
-unfolding mapMeta
-returns-6 c = c .smpte-offset .ensures ∙ rw (c .before .match .keys5)
+returns-6 c = c .tempo .ensures ∙ rw (c .before .match .keys4)
 
 returns-7 : tie.Need-returns-7
-unfolding mapMeta
-returns-7 c = c .time-signature .ensures ∙ rw (c .before .match .keys6)
+returns-7 c = c .smpte-offset .ensures ∙ rw (c .before .match .keys5)
 
 returns-8 : tie.Need-returns-8
-unfolding mapMeta
-returns-8 c = c .key-signature .ensures ∙ rw (c .before .match .keys7)
+returns-8 c = c .time-signature .ensures ∙ rw (c .before .match .keys6)
 
 returns-9 : tie.Need-returns-9
-unfolding mapMeta
-returns-9 c = c .message2 .ensures ∙ rw (c .before .match .keys8) (called-is (rulesOf (c .before .before .before .before .args .rules)) (now (c .before .before .before .before .args .raw)) (λ i. c .before .before .before .shared-slice-known .given i .fits) (spanOf (c .before .before .before .before .args .load)) (c .before .before .before .before .pre) 0x7F (sequencerSpecific _) (form-sequencer _ _))
+returns-9 c = c .key-signature .ensures ∙ rw (c .before .match .keys7)
 
 returns-10 : tie.Need-returns-10
 unfolding mapMeta
-returns-10 c = c .message3 .ensures ∙ called-is (rulesOf (c .before .before .before .before .args .rules)) (now (c .before .before .before .before .args .raw)) (λ i. c .before .before .before .shared-slice-known .given i .fits) (spanOf (c .before .before .before .before .args .load)) (c .before .before .before .before .pre) _ (unknown _ _) (form-unknown _ _ _ (c .before .before .if1 .left) (c .before .match .rest .0 .0 .0 .0 .0 .0 .0 .1) (c .before .match .rest .0 .0 .0 .0 .0 .0 .1) (c .before .match .rest .0 .0 .0 .0 .0 .1) (c .before .match .rest .0 .0 .0 .0 .1) (c .before .match .rest .0 .0 .0 .1) (c .before .match .rest .0 .0 .1) (c .before .match .rest .0 .1) (c .before .match .rest .1))
+returns-10 c =
+    let s = c .before .before .before .before .before in
+    c .message4 .ensures ∙ rw (c .before .match .keys8) (called-is (rulesOf (s .args .rules)) (now (s .args .raw)) (λ i. c .before .before .before .before .shared-slice-known .given i .fits) (spanOf (s .args .load)) (s .pre) 0x7F (sequencerSpecific _) (form-sequencer _ _))
+
+returns-11 : tie.Need-returns-11
+unfolding mapMeta
+returns-11 c =
+    let s = c .before .before .before .before .before in
+    let not = c .before .match .rest in
+    c .message5 .ensures ∙ called-is (rulesOf (s .args .rules)) (now (s .args .raw)) (λ i. c .before .before .before .before .shared-slice-known .given i .fits) (spanOf (s .args .load)) (s .pre) _ (unknown _ _) (form-unknown _ _ _ (c .before .before .if2 .left) (not .0 .0 .0 .0 .0 .0 .0 .1) (not .0 .0 .0 .0 .0 .0 .1) (not .0 .0 .0 .0 .0 .1) (not .0 .0 .0 .0 .1) (not .0 .0 .0 .1) (not .0 .0 .1) (not .0 .1) (not .1))
 
 pub named-spec : {M : Type 1} → statement M
 named-spec =
     tie.close
     (tie.spec
-    text-requires
-    returns
-    channel-requires
-    port-requires
+    track-number-requires
     message-requires
+    returns
+    text-requires
+    message-requires-2
+    returns-2
+    narrow-requires
+    narrow-requires-2
+    message-requires-3
     tempo-requires
     smpte-offset-requires
     time-signature-requires
     key-signature-requires
-    message-requires-2
-    message-requires-3
-    returns-2
+    message-requires-4
+    message-requires-5
     returns-3
     returns-4
     returns-5
@@ -104,4 +123,5 @@ named-spec =
     returns-7
     returns-8
     returns-9
-    returns-10)
+    returns-10
+    returns-11)
