@@ -193,7 +193,7 @@ pub extern "C" fn apk_list_write(
         }
         WroteList::Length(size) => {
             *length = size.length;
-            *after = size.running.status;
+            *after = size.running.status; // as the last event leaves it
             0
         }
     }
