@@ -13,7 +13,7 @@ pub fn same_list(a: EventList, a_bytes: &[u8], b: EventList, b_bytes: &[u8]) -> 
 {
     let count = a.count;
     if b.count != count {
-        return false;
+        return false; // another count
     }
     let mut i: usize = 0;
     while i < count {

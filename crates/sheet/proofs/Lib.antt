@@ -1,3 +1,2 @@
 -- Laws on rows' cells, and what the loop keeps.
-pub mod Cells
 pub mod Laying

@@ -21,16 +21,11 @@ fn put_row(rows: &mut [u64], at: usize, row: [u64; 10])
     requires { ⌜ at + width ≤ length (now rows) ⌝ }
     ensures { λ r. ⌜ now (rows .exit) ≡ over row (now (rows .entry)) at ⌝ }
 {
-    rows[at] = row[0];
-    rows[at + 1] = row[1];
-    rows[at + 2] = row[2];
-    rows[at + 3] = row[3];
-    rows[at + 4] = row[4];
-    rows[at + 5] = row[5];
-    rows[at + 6] = row[6];
-    rows[at + 7] = row[7];
-    rows[at + 8] = row[8];
-    rows[at + 9] = row[9];
+    let mut i: usize = 0;
+    while i < WIDTH {
+        rows[at + i] = row[i];
+        i += 1;
+    }
 }
 
 // One row behind the other, of cells that are enough.

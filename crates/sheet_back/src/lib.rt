@@ -32,18 +32,13 @@ fn cells_at(rows: &[u64], at: usize) -> [u64; 10]
     requires { ⌜ at + width ≤ length (now rows) ⌝ }
     ensures { λ r. ⌜ r ≡ take width (drop at (now (rows .entry))) ⌝ }
 {
-    [
-        rows[at],
-        rows[at + 1],
-        rows[at + 2],
-        rows[at + 3],
-        rows[at + 4],
-        rows[at + 5],
-        rows[at + 6],
-        rows[at + 7],
-        rows[at + 8],
-        rows[at + 9],
-    ]
+    let mut row = [0u64; 10];
+    let mut i: usize = 0;
+    while i < WIDTH {
+        row[i] = rows[at + i];
+        i += 1;
+    }
+    row
 }
 
 // The row that starts at a cell; zeros where its ten cells are not all there.

@@ -1,180 +1,93 @@
--- `put_row` meets its contract: ten stores in a row are one write.
+-- `put_row` meets its contract. The invariant: the first i cells of the row stand at the place.
+use Prim.Native.Nat.{ℕ, _≤_, _-_}
+use mathlib.Core.List.{List}
+use mathlib.Core.Path.{_≡_, sym, ap, _∙_}
+use native.Mathlib.Numerals.{add-one}
 use native.Mathlib.Omega.{arith}
-use mathlib.Core.Path.{_≡_}
-use lib.ListN.{length, length-set}
-use Rattle.sheet.specs.Sheet.{width}
 use borrow.Author.Needs.{needs}
-use Rattle.sheet.proofs.Cells.{row-put}
+use lib.ListN.{length, take}
+use lib.Seq.{paste, paste-zero, paste-suc, length-paste, take-length}
+use Rattle.smf.specs.Write.{over}
+use Rattle.payload.proofs.Copying.{pasted}
+use Rattle.sheet.specs.Sheet.{width}
 use Rattle.sheet.proofs.put_row.Statement.{statement}
 use Rattle.sheet.proofs.put_row.Tie as tie
 
-array-read-rows : tie.Need-array-read-rows
-array-read-rows c = search needs
+abbrev Inv-loop : tie.InvT-loop
+Inv-loop rows₀ at row i₀ rows i = (i ≤ width) × (rows ≡ paste rows₀ at row i)
 
-mul-rows : tie.Need-mul-rows
+abbrev μ-loop : tie.MeasureT-loop
+μ-loop rows₀ at row i₀ rows i = width - i
+
+loop-holds : tie.Need-loop-holds Inv-loop μ-loop
+loop-holds c = (omega arith, paste-zero (c .args .rows .now) (c .args .at) (c .args .t3))
+
+mul-rows : tie.Need-mul-rows Inv-loop μ-loop
 mul-rows c = search needs
 
-slice-write-rows : tie.Need-slice-write-rows
-slice-write-rows c = search needs
+array-read-rows : tie.Need-array-read-rows Inv-loop μ-loop
+array-read-rows c = search needs
 
-array-read-rows-2 : tie.Need-array-read-rows-2
-array-read-rows-2 c = search needs
-
-add-rows : tie.Need-add-rows
+add-rows : tie.Need-add-rows Inv-loop μ-loop
 add-rows c = search needs
 
-mul-rows-2 : tie.Need-mul-rows-2
+mul-rows-2 : tie.Need-mul-rows-2 Inv-loop μ-loop
 mul-rows-2 c = search needs
 
-slice-write-rows-2 : tie.Need-slice-write-rows-2
-slice-write-rows-2 c = simp length-set (omega arith)
+ten : (c : tie.In-loop Inv-loop μ-loop) → length (c .before .before .args .t3) ≡ width
+ten c = search needs
 
-array-read-rows-3 : tie.Need-array-read-rows-3
-array-read-rows-3 c = search needs
+-- the cells stay as many
+kept : (c : tie.At-loop Inv-loop μ-loop) → length (c .loop .rows) ≡ length (c .before .args .rows .now)
+kept c =
+    let a = c .before .args in
+    let long : length (a .t3) ≡ width = search needs in
+    ap length (c .loop .inv .1) ∙ length-paste (a .rows .now) (a .at) (a .t3) (c .loop .i) (omega arith) (omega arith)
 
-add-rows-2 : tie.Need-add-rows-2
-add-rows-2 c = search needs
+slice-write-rows : tie.Need-slice-write-rows Inv-loop μ-loop
+slice-write-rows c = omega (arith, kept (c .before))
 
-mul-rows-3 : tie.Need-mul-rows-3
-mul-rows-3 c = search needs
+add-i : tie.Need-add-i Inv-loop μ-loop
+add-i c = search needs
 
-slice-write-rows-3 : tie.Need-slice-write-rows-3
-slice-write-rows-3 c = simp length-set (omega arith)
+loop-less : tie.Need-loop-less Inv-loop μ-loop
+loop-less c = search needs
 
-array-read-rows-4 : tie.Need-array-read-rows-4
-array-read-rows-4 c = search needs
+loop-again : tie.Need-loop-again Inv-loop μ-loop
+loop-again c =
+    let l = c .before .loop in
+    let a = c .before .before .args in (
+      omega arith,
+      rw (add-one (l .i), l .inv .1) (paste-suc (a .rows .now) (a .at) (a .t3) (l .i) 0 (omega arith) (omega (arith, ten c))),
+    )
 
-add-rows-3 : tie.Need-add-rows-3
-add-rows-3 c = search needs
+same-length : tie.Need-same-length Inv-loop μ-loop
+same-length c = kept (c .before)
 
-mul-rows-4 : tie.Need-mul-rows-4
-mul-rows-4 c = search needs
-
-slice-write-rows-4 : tie.Need-slice-write-rows-4
-slice-write-rows-4 c = simp length-set (omega arith)
-
-array-read-rows-5 : tie.Need-array-read-rows-5
-array-read-rows-5 c = search needs
-
-add-rows-4 : tie.Need-add-rows-4
-add-rows-4 c = search needs
-
-mul-rows-5 : tie.Need-mul-rows-5
-mul-rows-5 c = search needs
-
-slice-write-rows-5 : tie.Need-slice-write-rows-5
-slice-write-rows-5 c = simp length-set (omega arith)
-
-array-read-rows-6 : tie.Need-array-read-rows-6
-array-read-rows-6 c = search needs
-
-add-rows-5 : tie.Need-add-rows-5
-add-rows-5 c = search needs
-
-mul-rows-6 : tie.Need-mul-rows-6
-mul-rows-6 c = search needs
-
-slice-write-rows-6 : tie.Need-slice-write-rows-6
-slice-write-rows-6 c = simp length-set (omega arith)
-
-array-read-rows-7 : tie.Need-array-read-rows-7
-array-read-rows-7 c = search needs
-
-add-rows-6 : tie.Need-add-rows-6
-add-rows-6 c = search needs
-
-mul-rows-7 : tie.Need-mul-rows-7
-mul-rows-7 c = search needs
-
-slice-write-rows-7 : tie.Need-slice-write-rows-7
-slice-write-rows-7 c = simp length-set (omega arith)
-
-array-read-rows-8 : tie.Need-array-read-rows-8
-array-read-rows-8 c = search needs
-
-add-rows-7 : tie.Need-add-rows-7
-add-rows-7 c = search needs
-
-mul-rows-8 : tie.Need-mul-rows-8
-mul-rows-8 c = search needs
-
-slice-write-rows-8 : tie.Need-slice-write-rows-8
-slice-write-rows-8 c = simp length-set (omega arith)
-
-array-read-rows-9 : tie.Need-array-read-rows-9
-array-read-rows-9 c = search needs
-
-add-rows-8 : tie.Need-add-rows-8
-add-rows-8 c = search needs
-
-mul-rows-9 : tie.Need-mul-rows-9
-mul-rows-9 c = search needs
-
-slice-write-rows-9 : tie.Need-slice-write-rows-9
-slice-write-rows-9 c = simp length-set (omega arith)
-
-array-read-rows-10 : tie.Need-array-read-rows-10
-array-read-rows-10 c = search needs
-
-add-rows-9 : tie.Need-add-rows-9
-add-rows-9 c = search needs
-
-mul-rows-10 : tie.Need-mul-rows-10
-mul-rows-10 c = search needs
-
-slice-write-rows-10 : tie.Need-slice-write-rows-10
-slice-write-rows-10 c = simp length-set (omega arith)
-
-same-length : tie.Need-same-length
-same-length c = simp length-set
-
-returns : tie.Need-returns
+returns : tie.Need-returns Inv-loop μ-loop
 returns c =
-    let long : length (c .args .t3) ≡ width = search needs in
-    row-put (c .args .rows .now) (c .args .at) (c .pre) (c .args .t3) long
+    let a = c .before .before .args in
+    let all : c .before .loop .i ≡ width = omega arith in
+    let long : length (a .t3) ≡ width = search needs in
+    let whole : take width (a .t3) ≡ a .t3 = ap (λ (n : ℕ). take n (a .t3)) (sym long) ∙ take-length (a .t3) in
+    c .before .loop .inv .1
+    ∙ rw all (pasted (a .rows .now) (a .at) (a .t3) width (omega arith))
+    ∙ ap (λ (l : List ℕ). over l (a .rows .now) (a .at)) whole
 
 pub put-row-spec : {M : Type 1} → statement M
 put-row-spec =
     tie.close
     (tie.spec
-    array-read-rows
+    Inv-loop
+    μ-loop
+    loop-holds
     mul-rows
-    slice-write-rows
-    array-read-rows-2
+    array-read-rows
     add-rows
     mul-rows-2
-    slice-write-rows-2
-    array-read-rows-3
-    add-rows-2
-    mul-rows-3
-    slice-write-rows-3
-    array-read-rows-4
-    add-rows-3
-    mul-rows-4
-    slice-write-rows-4
-    array-read-rows-5
-    add-rows-4
-    mul-rows-5
-    slice-write-rows-5
-    array-read-rows-6
-    add-rows-5
-    mul-rows-6
-    slice-write-rows-6
-    array-read-rows-7
-    add-rows-6
-    mul-rows-7
-    slice-write-rows-7
-    array-read-rows-8
-    add-rows-7
-    mul-rows-8
-    slice-write-rows-8
-    array-read-rows-9
-    add-rows-8
-    mul-rows-9
-    slice-write-rows-9
-    array-read-rows-10
-    add-rows-9
-    mul-rows-10
-    slice-write-rows-10
+    slice-write-rows
+    add-i
+    loop-less
+    loop-again
     same-length
     returns)

@@ -1,130 +1,75 @@
--- `cells_at` meets its contract: ten cells in a row are the row.
+-- `cells_at` meets its contract. The invariant: the first i cells of the row are those from the place on.
+use mathlib.Core.List.{List}
+use mathlib.Core.Path.{_≡_, sym, ap, _∙_}
+use Prim.Native.Nat.{ℕ, _≤_, _-_}
+use native.Mathlib.Nat.{zero-add}
+use native.Mathlib.Numerals.{add-one}
+use native.Mathlib.Omega.{arith}
 use borrow.Author.Needs.{needs}
-use Rattle.sheet.proofs.Cells.{row-read}
+use lib.ListN.{length, take, drop, set, getD, replicate, length-drop}
+use lib.Seq.{paste, paste-zero, paste-suc, length-paste, take-paste, take-length, getD-drop}
+use Rattle.sheet.specs.Sheet.{width}
 use Rattle.sheet_back.proofs.cells_at.Statement.{statement}
 use Rattle.sheet_back.proofs.cells_at.Tie as tie
 
-mul-t3 : tie.Need-mul-t3
-mul-t3 c = search needs
+-- the row before its first cell
+abbrev noughts : List ℕ
+noughts = replicate width 0
 
-shared-slice-read-t5 : tie.Need-shared-slice-read-t5
-shared-slice-read-t5 c = search needs
+abbrev Inv-loop : tie.InvT-loop
+Inv-loop rows at row₀ i₀ row i = (i ≤ width) × (row ≡ paste row₀ 0 (drop at rows) i)
 
-add-t6 : tie.Need-add-t6
-add-t6 c = search needs
+abbrev μ-loop : tie.MeasureT-loop
+μ-loop rows at row₀ i₀ row i = width - i
 
-mul-t7 : tie.Need-mul-t7
-mul-t7 c = search needs
+loop-holds : tie.Need-loop-holds Inv-loop μ-loop
+loop-holds c = (omega arith, paste-zero noughts 0 (drop (c .args .at) (c .args .rows .now)))
 
-shared-slice-read-t9 : tie.Need-shared-slice-read-t9
-shared-slice-read-t9 c = search needs
+add-row : tie.Need-add-row Inv-loop μ-loop
+add-row c = search needs
 
-add-t10 : tie.Need-add-t10
-add-t10 c = search needs
+mul-row : tie.Need-mul-row Inv-loop μ-loop
+mul-row c = search needs
 
-mul-t11 : tie.Need-mul-t11
-mul-t11 c = search needs
+shared-slice-read-row : tie.Need-shared-slice-read-row Inv-loop μ-loop
+shared-slice-read-row c = search needs
 
-shared-slice-read-t13 : tie.Need-shared-slice-read-t13
-shared-slice-read-t13 c = search needs
+mul-row-2 : tie.Need-mul-row-2 Inv-loop μ-loop
+mul-row-2 c = search needs
 
-add-t14 : tie.Need-add-t14
-add-t14 c = search needs
+array-write-row : tie.Need-array-write-row Inv-loop μ-loop
+array-write-row c = search needs
 
-mul-t15 : tie.Need-mul-t15
-mul-t15 c = search needs
+add-i : tie.Need-add-i Inv-loop μ-loop
+add-i c = search needs
 
-shared-slice-read-t17 : tie.Need-shared-slice-read-t17
-shared-slice-read-t17 c = search needs
+loop-less : tie.Need-loop-less Inv-loop μ-loop
+loop-less c = search needs
 
-add-t18 : tie.Need-add-t18
-add-t18 c = search needs
+loop-again : tie.Need-loop-again Inv-loop μ-loop
+loop-again c =
+    let l = c .before .before .loop in
+    let a = c .before .before .before .args in
+    let s = drop (a .at) (a .rows .now) in (
+      omega arith,
+      rw (add-one (l .i), l .inv .1, ← getD-drop (a .at) (a .rows .now) (l .i) 0)
+          (ap (λ (k : ℕ). set (paste noughts 0 s (l .i)) k (getD s (l .i) 0)) (sym (zero-add (l .i))) ∙ paste-suc noughts 0 s (l .i) 0 (omega arith) (omega (arith, length-drop (a .at) (a .rows .now)))),
+    )
 
-mul-t19 : tie.Need-mul-t19
-mul-t19 c = search needs
-
-shared-slice-read-t21 : tie.Need-shared-slice-read-t21
-shared-slice-read-t21 c = search needs
-
-add-t22 : tie.Need-add-t22
-add-t22 c = search needs
-
-mul-t23 : tie.Need-mul-t23
-mul-t23 c = search needs
-
-shared-slice-read-t25 : tie.Need-shared-slice-read-t25
-shared-slice-read-t25 c = search needs
-
-add-t26 : tie.Need-add-t26
-add-t26 c = search needs
-
-mul-t27 : tie.Need-mul-t27
-mul-t27 c = search needs
-
-shared-slice-read-t29 : tie.Need-shared-slice-read-t29
-shared-slice-read-t29 c = search needs
-
-add-t30 : tie.Need-add-t30
-add-t30 c = search needs
-
-mul-t31 : tie.Need-mul-t31
-mul-t31 c = search needs
-
-shared-slice-read-t33 : tie.Need-shared-slice-read-t33
-shared-slice-read-t33 c = search needs
-
-add-t34 : tie.Need-add-t34
-add-t34 c = search needs
-
-mul-t35 : tie.Need-mul-t35
-mul-t35 c = search needs
-
-shared-slice-read-t37 : tie.Need-shared-slice-read-t37
-shared-slice-read-t37 c = search needs
-
-add-t38 : tie.Need-add-t38
-add-t38 c = search needs
-
-mul-t39 : tie.Need-mul-t39
-mul-t39 c = search needs
-
-shared-slice-read-t41 : tie.Need-shared-slice-read-t41
-shared-slice-read-t41 c = search needs
-
-returns : tie.Need-returns
-returns c = row-read _ _ (c .before .before .before .before .before .before .before .before .before .before .pre)
+returns : tie.Need-returns Inv-loop μ-loop
+returns c =
+    let l = c .before .loop in
+    let a = c .before .before .args in
+    let s = drop (a .at) (a .rows .now) in
+    let all : l .i ≡ width = omega arith in
+    let long : length (l .row) ≡ width = ap length (l .inv .1) ∙ length-paste noughts 0 s (l .i) (omega arith) (omega (arith, length-drop (a .at) (a .rows .now))) in
+    let whole : take width (l .row) ≡ l .row = ap (λ (n : ℕ). take n (l .row)) (sym long) ∙ take-length (l .row) in
+    sym whole
+    ∙ ap (λ (r : List ℕ). take width r) (l .inv .1)
+    ∙ ap (λ (n : ℕ). take width (paste noughts 0 s n)) all
+    ∙ take-paste noughts 0 s width (omega arith) (omega (arith, length-drop (a .at) (a .rows .now)))
 
 pub cells-at-spec : {M : Type 1} → statement M
 cells-at-spec =
     tie.close
-    (tie.spec
-    mul-t3
-    shared-slice-read-t5
-    add-t6
-    mul-t7
-    shared-slice-read-t9
-    add-t10
-    mul-t11
-    shared-slice-read-t13
-    add-t14
-    mul-t15
-    shared-slice-read-t17
-    add-t18
-    mul-t19
-    shared-slice-read-t21
-    add-t22
-    mul-t23
-    shared-slice-read-t25
-    add-t26
-    mul-t27
-    shared-slice-read-t29
-    add-t30
-    mul-t31
-    shared-slice-read-t33
-    add-t34
-    mul-t35
-    shared-slice-read-t37
-    add-t38
-    mul-t39
-    shared-slice-read-t41
-    returns)
+    (tie.spec Inv-loop μ-loop loop-holds add-row mul-row shared-slice-read-row mul-row-2 array-write-row add-i loop-less loop-again returns)
