@@ -90,19 +90,22 @@ pub fn put_bytes(bytes: &[u8], found: &mut [u64; CELLS], at: usize) -> usize {
     count
 }
 
-// The same of numbers.
-pub fn put_cells(cells: &[u64], found: &mut [u64; CELLS], at: usize) -> usize {
-    let mut count = at;
+// Rows put behind the first numbers of an answer. How many numbers there are then.
+pub fn put_rows(rows: &[u64; ROWS], count: usize, found: &mut [u64; CELLS], at: usize) -> usize {
+    let mut end = at;
     let mut i: usize = 0;
-    while i < cells.len() {
-        if CELLS <= count {
-            return count;
+    while i < ROWS {
+        if count <= i / 10 {
+            return end;
         }
-        found[count] = cells[i];
-        count += 1;
+        if CELLS <= end {
+            return end;
+        }
+        found[end] = rows[i];
+        end += 1;
         i += 1;
     }
-    count
+    end
 }
 
 // Whether the numbers are those that were found.

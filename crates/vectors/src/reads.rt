@@ -3,10 +3,8 @@
 use crate::cells::ROWS;
 use crate::cells::number;
 use crate::cells::number_byte;
-use crate::cells::part;
 use crate::cells::place;
-use crate::cells::put_bytes;
-use crate::cells::put_cells;
+use crate::cells::put_rows;
 use crate::cells::row;
 use crate::cells::wide;
 use crate::line::CELLS;
@@ -59,6 +57,19 @@ fn payload_read(given: &[u64], bytes: &[u8], found: &mut [u64; CELLS]) -> usize 
     3
 }
 
+fn put_row(row: [u64; 10], found: &mut [u64; CELLS]) {
+    found[3] = row[0];
+    found[4] = row[1];
+    found[5] = row[2];
+    found[6] = row[3];
+    found[7] = row[4];
+    found[8] = row[5];
+    found[9] = row[6];
+    found[10] = row[7];
+    found[11] = row[8];
+    found[12] = row[9];
+}
+
 // Strict, running status, place. The row is answered where it is accepted.
 fn event_read(given: &[u64], bytes: &[u8], found: &mut [u64; CELLS]) -> usize {
     let mut row = [0xA5u64; 10];
@@ -77,17 +88,10 @@ fn event_read(given: &[u64], bytes: &[u8], found: &mut [u64; CELLS]) -> usize {
     found[1] = used as u64;
     found[2] = wide(after);
     if answer == 0 {
-        return put_cells(&row, found, 3);
+        put_row(row, found);
+        return 13;
     }
     3
-}
-
-// The cells of so many rows.
-fn row_cells(count: usize) -> usize {
-    if ROWS / 10 < count {
-        return ROWS;
-    }
-    count * 10
 }
 
 // Strict, running status, place.
@@ -109,7 +113,7 @@ fn list_read(given: &[u64], bytes: &[u8], found: &mut [u64; CELLS]) -> usize {
     found[1] = count as u64;
     found[2] = at as u64;
     found[3] = wide(after);
-    put_cells(part(&rows, 0, row_cells(count)), found, 4)
+    put_rows(&rows, count, found, 4)
 }
 
 // How many bytes are the first event's; two rows.
@@ -138,7 +142,9 @@ fn format_read(bytes: &[u8], found: &mut [u64; CELLS]) -> usize {
 fn format_written(given: &[u64], found: &mut [u64; CELLS]) -> usize {
     let mut bytes = [0xA5u8; 2];
     found[0] = wide(apk_format_encode(number_byte(given, 0), &mut bytes));
-    put_bytes(&bytes, found, 1)
+    found[1] = wide(bytes[0]);
+    found[2] = wide(bytes[1]);
+    3
 }
 
 fn timing_read(bytes: &[u8], found: &mut [u64; CELLS]) -> usize {
@@ -161,7 +167,9 @@ fn timing_written(given: &[u64], found: &mut [u64; CELLS]) -> usize {
         number_byte(given, 2),
         &mut bytes,
     ));
-    put_bytes(&bytes, found, 1)
+    found[1] = wide(bytes[0]);
+    found[2] = wide(bytes[1]);
+    3
 }
 
 // A byte as a code and as a rate.
@@ -188,10 +196,16 @@ fn time_read(given: &[u64], found: &mut [u64; CELLS]) -> usize {
         number_byte(given, 4),
         &mut six,
     ));
-    put_bytes(&six, found, 1)
+    found[1] = wide(six[0]);
+    found[2] = wide(six[1]);
+    found[3] = wide(six[2]);
+    found[4] = wide(six[3]);
+    found[5] = wide(six[4]);
+    found[6] = wide(six[5]);
+    7
 }
 
-fn time_written(given: &[u64], found: &mut [u64; CELLS]) -> usize {
+fn time_written(given: &[u64], found: &mut [u64; CELLS]) {
     let mut bytes = [0xA5u8; 5];
     found[3] = wide(apk_smpte_encode(
         number_byte(given, 0),
@@ -202,7 +216,11 @@ fn time_written(given: &[u64], found: &mut [u64; CELLS]) -> usize {
         number_byte(given, 5),
         &mut bytes,
     ));
-    put_bytes(&bytes, found, 4)
+    found[4] = wide(bytes[0]);
+    found[5] = wide(bytes[1]);
+    found[6] = wide(bytes[2]);
+    found[7] = wide(bytes[3]);
+    found[8] = wide(bytes[4]);
 }
 
 // Hour, minute, second, frame, subframe, rate: whether they are a time, its position, its bytes.
@@ -217,7 +235,8 @@ fn time(given: &[u64], found: &mut [u64; CELLS]) -> usize {
     found[0] = wide(apk_smpte_new(hour, minute, second, frame, subframe, rate));
     found[1] = wide(apk_smpte_position(hour, minute, second, frame, subframe, rate, &mut position));
     found[2] = position as u64;
-    time_written(given, found)
+    time_written(given, found);
+    9
 }
 
 pub fn answer(letter: u8, given: &[u64], bytes: &[u8], found: &mut [u64; CELLS]) -> usize {
