@@ -4,8 +4,8 @@ ghost use lib.IntN.{pos};
 ghost use lib.Ieee.{binary32, binary64};
 ghost use Rattle.smf.specs.Bend.{lowest, highest, clamped, rawOf, rawOfFloat, askBend, askFloat, GivesQuotient};
 ghost use Rattle.bend.specs.Bend.{bendInt, bendF32, bendF64, clampedFloat};
+use int::u14;
 use refusal::Refusal;
-use restricted::u14;
 
 // The raw bend: 0x2000 is none.
 pub struct PitchBend(pub u14);

@@ -8,12 +8,12 @@ use Rattle.smf.specs.Write.{write, numberBytes, payloadBytes}
 use Rattle.smf.specs.MetaAt.{metaAt}
 use Rattle.smf.specs.Event.{eventAt, writeEvent}
 use Rattle.smf.specs.Lists.{listAt, heldAs, sizeList, writeList}
-use Rattle.number.specs.Rules.{rulesOf}
+use Rattle.rules.specs.Rules.{rulesOf}
 use Rattle.number.specs.Varlen.{numberRead, writeLeft}
 use Rattle.payload.specs.Payload.{sliceRead}
-use Rattle.number.specs.declared.rules.Rules.{Rules}
-use Rattle.number.specs.declared.rules.Running.{Running}
-use Rattle.number.specs.declared.rules.Range.{Range}
+use Rattle.rules.specs.declared.Rules.{Rules}
+use Rattle.rules.specs.declared.Running.{Running}
+use Rattle.rules.specs.declared.Range.{Range}
 use Rattle.number.specs.declared.varlen.u28.{u28}
 use Rattle.number.specs.declared.varlen.ReadNumber.{ReadNumber}
 use Rattle.payload.specs.declared.ReadSlice.{ReadSlice}

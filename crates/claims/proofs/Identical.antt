@@ -6,7 +6,7 @@ use lib.ListN.{getD}
 use Rattle.smf.specs.Write.{Written}
 use Rattle.number.specs.Varlen.{writeLeft}
 use Rattle.number.specs.declared.varlen.Written as varlen
-use Rattle.restricted.proofs.Identical.{triedU2-injective, triedU4-injective, triedU7-injective, triedU14-injective, triedU15-injective, triedU24-injective}
+use Rattle.int.proofs.Identical.{triedU2-injective, triedU4-injective, triedU7-injective, triedU14-injective, triedU15-injective, triedU24-injective}
 use Rattle.number.proofs.Identical.{triedU28-injective, numberRead-injective, writtenTo-injective}
 use Rattle.payload.proofs.Identical.{sliceRead-injective}
 use Rattle.header.proofs.Identical.{rateOf-injective, triedFps-injective, formatRead-injective, timingRead-injective, timingEncoded-injective}

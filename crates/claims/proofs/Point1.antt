@@ -11,9 +11,9 @@ use Rattle.smf.specs.Write.{numberBytes, payloadBytes}
 use Rattle.smf.specs.Event.{EventWritten}
 use Rattle.smf.specs.Lists.{ListAt, listAt, heldAs, ListSize, ListWritten}
 use Rattle.refusal.specs.Refusal.{numberOf}
-use Rattle.number.specs.Rules.{rulesOf}
-use Rattle.number.specs.declared.rules.Rules.{Rules}
-use Rattle.number.specs.declared.rules.Running.{Running}
+use Rattle.rules.specs.Rules.{rulesOf}
+use Rattle.rules.specs.declared.Rules.{Rules}
+use Rattle.rules.specs.declared.Running.{Running}
 use Rattle.refusal.specs.declared.Refusal.{Refusal}
 use Rattle.refusal.specs.declared.Refusal.the-variants as refusal
 use Rattle.header.specs.Timing.{timingOf}

@@ -20,10 +20,10 @@ use Rattle.smf.proofs.Answer.{said-of}
 use Rattle.smf.proofs.Number.{smf-read, smf-number}
 use Rattle.smf.proofs.Place.{Reached, NumberReached, number-reached}
 use Rattle.smf.proofs.Event.{legal-exactly}
-use Rattle.number.specs.Rules.{rulesOf}
+use Rattle.rules.specs.Rules.{rulesOf}
 use Rattle.number.specs.Varlen.{numberRead}
-use Rattle.number.specs.declared.rules.Rules as number
-use Rattle.number.specs.declared.rules.Running.{Running}
+use Rattle.rules.specs.declared.Rules as number
+use Rattle.rules.specs.declared.Running.{Running}
 use Rattle.number.specs.declared.varlen.ReadNumber.{ReadNumber}
 use Rattle.event.specs.Event.{eventOf}
 use Rattle.event.specs.declared.track_event.TrackEvent.{TrackEvent}

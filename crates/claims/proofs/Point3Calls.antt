@@ -13,9 +13,9 @@ use Rattle.smf.proofs.Event as smf
 use Rattle.smf.proofs.Lists.{list-ended}
 use Rattle.smf.proofs.ListPlaces.{list-reached}
 use Rattle.smf.proofs.ListWrites.{write-wrote, front-own}
-use Rattle.number.specs.Rules.{rulesOf}
-use Rattle.number.specs.declared.rules.Rules as number
-use Rattle.number.specs.declared.rules.Running.{Running}
+use Rattle.rules.specs.Rules.{rulesOf}
+use Rattle.rules.specs.declared.Rules as number
+use Rattle.rules.specs.declared.Running.{Running}
 use Rattle.event.specs.Event.{eventOf}
 use Rattle.event.specs.declared.track_event.TrackEvent.{TrackEvent}
 use Rattle.writing.specs.Write.{wroteEvent}

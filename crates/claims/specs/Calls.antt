@@ -9,9 +9,9 @@ use denote.Ref.{now}
 use denote.Triple.Clauses.{AtExit}
 use borrow.Fn.Kind.{PK, RK}
 use borrow.Fn.Kinds.{Dens, Out, resT, endedOf}
-use Rattle.number.specs.declared.rules.Rules.{Rules}
-use Rattle.number.specs.declared.rules.Running.{Running}
-use Rattle.number.specs.declared.rules.Range.{Range}
+use Rattle.rules.specs.declared.Rules.{Rules}
+use Rattle.rules.specs.declared.Running.{Running}
+use Rattle.rules.specs.declared.Range.{Range}
 use Rattle.number.specs.declared.varlen.u28.{u28}
 use Rattle.number.specs.declared.varlen.ReadNumber.{ReadNumber}
 use Rattle.payload.specs.declared.ReadSlice.{ReadSlice}

@@ -2,7 +2,8 @@
 -- and so is what a lent buffer holds at the end. A line for each public function, by its path.
 use denote.Ref.{now}
 use Rattle.refusal.proofs as refusal
-use Rattle.restricted.proofs as restricted
+use Rattle.int.proofs as int
+use Rattle.rules.proofs as rules
 use Rattle.number.proofs as number
 use Rattle.payload.proofs as payload
 use Rattle.header.proofs as header
@@ -25,38 +26,38 @@ use Rattle.same.proofs as same
 use Rattle.same_lists.proofs as same-lists
 use Rattle.claims.specs.Calls.{OneAnswer, OneAnswerAndEnd}
 
--- `restricted`, `refusal`, `number`, `payload`: restricted numbers, refusals, the running status, variable-length numbers and payloads
+-- `int`, `rules`, `refusal`, `number`, `payload`: restricted numbers, refusals, the running status, variable-length numbers and payloads
 pub record Numbers : Type 0 where
-  pub u2-max-value : OneAnswer 0 restricted.u2.«max_value».Kinds.ps restricted.u2.«max_value».Kinds.r restricted.u2.«max_value».Reads.Learnt
-  pub u2-new : OneAnswer 0 restricted.u2.new.Kinds.ps restricted.u2.new.Kinds.r restricted.u2.new.Reads.Learnt
-  pub u2-try-from : OneAnswer 0 restricted.u2.«try_from».Kinds.ps restricted.u2.«try_from».Kinds.r restricted.u2.«try_from».Reads.Learnt
-  pub u2-as-int : OneAnswer 0 restricted.u2.«as_int».Kinds.ps restricted.u2.«as_int».Kinds.r restricted.u2.«as_int».Reads.Learnt
-  pub u4-max-value : OneAnswer 0 restricted.u4.«max_value».Kinds.ps restricted.u4.«max_value».Kinds.r restricted.u4.«max_value».Reads.Learnt
-  pub u4-new : OneAnswer 0 restricted.u4.new.Kinds.ps restricted.u4.new.Kinds.r restricted.u4.new.Reads.Learnt
-  pub u4-try-from : OneAnswer 0 restricted.u4.«try_from».Kinds.ps restricted.u4.«try_from».Kinds.r restricted.u4.«try_from».Reads.Learnt
-  pub u4-as-int : OneAnswer 0 restricted.u4.«as_int».Kinds.ps restricted.u4.«as_int».Kinds.r restricted.u4.«as_int».Reads.Learnt
-  pub u7-max-value : OneAnswer 0 restricted.u7.«max_value».Kinds.ps restricted.u7.«max_value».Kinds.r restricted.u7.«max_value».Reads.Learnt
-  pub u7-new : OneAnswer 0 restricted.u7.new.Kinds.ps restricted.u7.new.Kinds.r restricted.u7.new.Reads.Learnt
-  pub u7-try-from : OneAnswer 0 restricted.u7.«try_from».Kinds.ps restricted.u7.«try_from».Kinds.r restricted.u7.«try_from».Reads.Learnt
-  pub u7-as-int : OneAnswer 0 restricted.u7.«as_int».Kinds.ps restricted.u7.«as_int».Kinds.r restricted.u7.«as_int».Reads.Learnt
-  pub u14-max-value : OneAnswer 0 restricted.u14.«max_value».Kinds.ps restricted.u14.«max_value».Kinds.r restricted.u14.«max_value».Reads.Learnt
-  pub u14-new : OneAnswer 0 restricted.u14.new.Kinds.ps restricted.u14.new.Kinds.r restricted.u14.new.Reads.Learnt
-  pub u14-try-from : OneAnswer 0 restricted.u14.«try_from».Kinds.ps restricted.u14.«try_from».Kinds.r restricted.u14.«try_from».Reads.Learnt
-  pub u14-as-int : OneAnswer 0 restricted.u14.«as_int».Kinds.ps restricted.u14.«as_int».Kinds.r restricted.u14.«as_int».Reads.Learnt
-  pub u15-max-value : OneAnswer 0 restricted.u15.«max_value».Kinds.ps restricted.u15.«max_value».Kinds.r restricted.u15.«max_value».Reads.Learnt
-  pub u15-new : OneAnswer 0 restricted.u15.new.Kinds.ps restricted.u15.new.Kinds.r restricted.u15.new.Reads.Learnt
-  pub u15-try-from : OneAnswer 0 restricted.u15.«try_from».Kinds.ps restricted.u15.«try_from».Kinds.r restricted.u15.«try_from».Reads.Learnt
-  pub u15-as-int : OneAnswer 0 restricted.u15.«as_int».Kinds.ps restricted.u15.«as_int».Kinds.r restricted.u15.«as_int».Reads.Learnt
-  pub u24-max-value : OneAnswer 0 restricted.u24.«max_value».Kinds.ps restricted.u24.«max_value».Kinds.r restricted.u24.«max_value».Reads.Learnt
-  pub u24-new : OneAnswer 0 restricted.u24.new.Kinds.ps restricted.u24.new.Kinds.r restricted.u24.new.Reads.Learnt
-  pub u24-try-from : OneAnswer 0 restricted.u24.«try_from».Kinds.ps restricted.u24.«try_from».Kinds.r restricted.u24.«try_from».Reads.Learnt
-  pub u24-as-int : OneAnswer 0 restricted.u24.«as_int».Kinds.ps restricted.u24.«as_int».Kinds.r restricted.u24.«as_int».Reads.Learnt
+  pub u2-max-value : OneAnswer 0 int.u2.«max_value».Kinds.ps int.u2.«max_value».Kinds.r int.u2.«max_value».Reads.Learnt
+  pub u2-new : OneAnswer 0 int.u2.new.Kinds.ps int.u2.new.Kinds.r int.u2.new.Reads.Learnt
+  pub u2-try-from : OneAnswer 0 int.u2.«try_from».Kinds.ps int.u2.«try_from».Kinds.r int.u2.«try_from».Reads.Learnt
+  pub u2-as-int : OneAnswer 0 int.u2.«as_int».Kinds.ps int.u2.«as_int».Kinds.r int.u2.«as_int».Reads.Learnt
+  pub u4-max-value : OneAnswer 0 int.u4.«max_value».Kinds.ps int.u4.«max_value».Kinds.r int.u4.«max_value».Reads.Learnt
+  pub u4-new : OneAnswer 0 int.u4.new.Kinds.ps int.u4.new.Kinds.r int.u4.new.Reads.Learnt
+  pub u4-try-from : OneAnswer 0 int.u4.«try_from».Kinds.ps int.u4.«try_from».Kinds.r int.u4.«try_from».Reads.Learnt
+  pub u4-as-int : OneAnswer 0 int.u4.«as_int».Kinds.ps int.u4.«as_int».Kinds.r int.u4.«as_int».Reads.Learnt
+  pub u7-max-value : OneAnswer 0 int.u7.«max_value».Kinds.ps int.u7.«max_value».Kinds.r int.u7.«max_value».Reads.Learnt
+  pub u7-new : OneAnswer 0 int.u7.new.Kinds.ps int.u7.new.Kinds.r int.u7.new.Reads.Learnt
+  pub u7-try-from : OneAnswer 0 int.u7.«try_from».Kinds.ps int.u7.«try_from».Kinds.r int.u7.«try_from».Reads.Learnt
+  pub u7-as-int : OneAnswer 0 int.u7.«as_int».Kinds.ps int.u7.«as_int».Kinds.r int.u7.«as_int».Reads.Learnt
+  pub u14-max-value : OneAnswer 0 int.u14.«max_value».Kinds.ps int.u14.«max_value».Kinds.r int.u14.«max_value».Reads.Learnt
+  pub u14-new : OneAnswer 0 int.u14.new.Kinds.ps int.u14.new.Kinds.r int.u14.new.Reads.Learnt
+  pub u14-try-from : OneAnswer 0 int.u14.«try_from».Kinds.ps int.u14.«try_from».Kinds.r int.u14.«try_from».Reads.Learnt
+  pub u14-as-int : OneAnswer 0 int.u14.«as_int».Kinds.ps int.u14.«as_int».Kinds.r int.u14.«as_int».Reads.Learnt
+  pub u15-max-value : OneAnswer 0 int.u15.«max_value».Kinds.ps int.u15.«max_value».Kinds.r int.u15.«max_value».Reads.Learnt
+  pub u15-new : OneAnswer 0 int.u15.new.Kinds.ps int.u15.new.Kinds.r int.u15.new.Reads.Learnt
+  pub u15-try-from : OneAnswer 0 int.u15.«try_from».Kinds.ps int.u15.«try_from».Kinds.r int.u15.«try_from».Reads.Learnt
+  pub u15-as-int : OneAnswer 0 int.u15.«as_int».Kinds.ps int.u15.«as_int».Kinds.r int.u15.«as_int».Reads.Learnt
+  pub u24-max-value : OneAnswer 0 int.u24.«max_value».Kinds.ps int.u24.«max_value».Kinds.r int.u24.«max_value».Reads.Learnt
+  pub u24-new : OneAnswer 0 int.u24.new.Kinds.ps int.u24.new.Kinds.r int.u24.new.Reads.Learnt
+  pub u24-try-from : OneAnswer 0 int.u24.«try_from».Kinds.ps int.u24.«try_from».Kinds.r int.u24.«try_from».Reads.Learnt
+  pub u24-as-int : OneAnswer 0 int.u24.«as_int».Kinds.ps int.u24.«as_int».Kinds.r int.u24.«as_int».Reads.Learnt
   pub u28-max-value : OneAnswer 0 number.varlen.u28.«max_value».Kinds.ps number.varlen.u28.«max_value».Kinds.r number.varlen.u28.«max_value».Reads.Learnt
   pub u28-new : OneAnswer 0 number.varlen.u28.new.Kinds.ps number.varlen.u28.new.Kinds.r number.varlen.u28.new.Reads.Learnt
   pub u28-try-from : OneAnswer 0 number.varlen.u28.«try_from».Kinds.ps number.varlen.u28.«try_from».Kinds.r number.varlen.u28.«try_from».Reads.Learnt
   pub u28-as-int : OneAnswer 0 number.varlen.u28.«as_int».Kinds.ps number.varlen.u28.«as_int».Kinds.r number.varlen.u28.«as_int».Reads.Learnt
   pub refusal-number : OneAnswer 0 refusal.Refusal.number.Kinds.ps refusal.Refusal.number.Kinds.r refusal.Refusal.number.Reads.Learnt
-  pub is-valid : OneAnswer 0 number.rules.Running.«is_valid».Kinds.ps number.rules.Running.«is_valid».Kinds.r number.rules.Running.«is_valid».Reads.Learnt
+  pub is-valid : OneAnswer 0 rules.Running.«is_valid».Kinds.ps rules.Running.«is_valid».Kinds.r rules.Running.«is_valid».Reads.Learnt
   pub read-u7 : OneAnswer 1 number.varlen.u28.«read_u7».Kinds.ps number.varlen.u28.«read_u7».Kinds.r number.varlen.u28.«read_u7».Reads.Learnt
   pub varlen-length : OneAnswer 0 number.varlen.u28.«varlen_length».Kinds.ps number.varlen.u28.«varlen_length».Kinds.r number.varlen.u28.«varlen_length».Reads.Learnt
   pub write-varlen : OneAnswerAndEnd 1 number.varlen.u28.«write_varlen».Kinds.ps number.varlen.u28.«write_varlen».Kinds.r number.varlen.u28.«write_varlen».Reads.Learnt (λ κs e. now (e .1 .0))

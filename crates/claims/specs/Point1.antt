@@ -10,12 +10,12 @@ use borrow.Fn.Kinds.{Out, resT}
 use Rattle.smf.specs.Answer.{Answer}
 use Rattle.smf.specs.Lists.{ListAt, heldAs}
 use Rattle.refusal.specs.Refusal.{numberOf}
-use Rattle.restricted.specs.Restricted.{triedU2, triedU4, triedU7, triedU14, triedU15, triedU24}
-use Rattle.number.specs.Rules.{rulesOf}
+use Rattle.int.specs.Restricted.{triedU2, triedU4, triedU7, triedU14, triedU15, triedU24}
+use Rattle.rules.specs.Rules.{rulesOf}
 use Rattle.number.specs.Varlen.{triedU28, numberRead, writtenTo}
 use Rattle.payload.specs.Payload.{sliceRead}
 use Rattle.refusal.specs.declared.Refusal.{Refusal}
-use Rattle.restricted.proofs as restricted
+use Rattle.int.proofs as int
 use Rattle.number.proofs as number
 use Rattle.payload.proofs as payload
 use Rattle.header.specs.Format.{formatRead}
@@ -48,12 +48,12 @@ Refuses n ps r Told says ns = Always n ps r Told (λ κs a z e. By ns (says κs 
 -- the functions whose refusals give the number alone, and change nothing, since nothing is lent to be changed
 pub record Numbered : Type 0 where
   -- 18: a number above its width
-  pub u2-try-from : Refuses 0 restricted.u2.«try_from».Kinds.ps restricted.u2.«try_from».Kinds.r restricted.u2.«try_from».Reads.Learnt (λ κs. triedU2) (18 ∷ [])
-  pub u4-try-from : Refuses 0 restricted.u4.«try_from».Kinds.ps restricted.u4.«try_from».Kinds.r restricted.u4.«try_from».Reads.Learnt (λ κs. triedU4) (18 ∷ [])
-  pub u7-try-from : Refuses 0 restricted.u7.«try_from».Kinds.ps restricted.u7.«try_from».Kinds.r restricted.u7.«try_from».Reads.Learnt (λ κs. triedU7) (18 ∷ [])
-  pub u14-try-from : Refuses 0 restricted.u14.«try_from».Kinds.ps restricted.u14.«try_from».Kinds.r restricted.u14.«try_from».Reads.Learnt (λ κs. triedU14) (18 ∷ [])
-  pub u15-try-from : Refuses 0 restricted.u15.«try_from».Kinds.ps restricted.u15.«try_from».Kinds.r restricted.u15.«try_from».Reads.Learnt (λ κs. triedU15) (18 ∷ [])
-  pub u24-try-from : Refuses 0 restricted.u24.«try_from».Kinds.ps restricted.u24.«try_from».Kinds.r restricted.u24.«try_from».Reads.Learnt (λ κs. triedU24) (18 ∷ [])
+  pub u2-try-from : Refuses 0 int.u2.«try_from».Kinds.ps int.u2.«try_from».Kinds.r int.u2.«try_from».Reads.Learnt (λ κs. triedU2) (18 ∷ [])
+  pub u4-try-from : Refuses 0 int.u4.«try_from».Kinds.ps int.u4.«try_from».Kinds.r int.u4.«try_from».Reads.Learnt (λ κs. triedU4) (18 ∷ [])
+  pub u7-try-from : Refuses 0 int.u7.«try_from».Kinds.ps int.u7.«try_from».Kinds.r int.u7.«try_from».Reads.Learnt (λ κs. triedU7) (18 ∷ [])
+  pub u14-try-from : Refuses 0 int.u14.«try_from».Kinds.ps int.u14.«try_from».Kinds.r int.u14.«try_from».Reads.Learnt (λ κs. triedU14) (18 ∷ [])
+  pub u15-try-from : Refuses 0 int.u15.«try_from».Kinds.ps int.u15.«try_from».Kinds.r int.u15.«try_from».Reads.Learnt (λ κs. triedU15) (18 ∷ [])
+  pub u24-try-from : Refuses 0 int.u24.«try_from».Kinds.ps int.u24.«try_from».Kinds.r int.u24.«try_from».Reads.Learnt (λ κs. triedU24) (18 ∷ [])
   pub u28-try-from : Refuses 0 number.varlen.u28.«try_from».Kinds.ps number.varlen.u28.«try_from».Kinds.r number.varlen.u28.«try_from».Reads.Learnt (λ κs. triedU28) (18 ∷ [])
   -- 17: a header field under two bytes; 15: a format above 2; 16: no such rate; 18: ticks above their width
   pub format-read : Refuses 1 header.format.Format.read.Kinds.ps header.format.Format.read.Kinds.r header.format.Format.read.Reads.Learnt (λ κs. formatRead) (15 ∷ 17 ∷ [])

@@ -12,10 +12,10 @@ use Rattle.smf.specs.Place.{NumberAt, Span}
 use Rattle.smf.specs.Write.{over}
 use Rattle.smf.specs.Event.{Event, eventAt, legal, encodeEvent, EventWritten, writeEvent, Same}
 use Rattle.smf.specs.Lists.{listAt, filler, heldAs, ended, eventAfter}
-use Rattle.number.specs.Rules.{rulesOf}
+use Rattle.rules.specs.Rules.{rulesOf}
 use Rattle.number.specs.Varlen.{numberRead}
-use Rattle.number.specs.declared.rules.Rules.{Rules}
-use Rattle.number.specs.declared.rules.Running.{Running}
+use Rattle.rules.specs.declared.Rules.{Rules}
+use Rattle.rules.specs.declared.Running.{Running}
 use Rattle.event.specs.Event.{eventOf, eventRead}
 use Rattle.track.specs.Read.{listRead}
 use Rattle.track.specs.declared.read.ReadList.{ReadList}

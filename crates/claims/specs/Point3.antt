@@ -10,9 +10,9 @@ use Rattle.smf.specs.Answer.{gives, Rules, strictOf}
 use Rattle.smf.specs.Place.{Span}
 use Rattle.smf.specs.Event.{Event, Same}
 use Rattle.smf.specs.Lists.{readList, ReadsAs, RecordsLegal, listed, ended, ListHeld, wrote, refusesAt, ListWritten, writeList, SameList}
-use Rattle.number.specs.Rules.{rulesOf}
-use Rattle.number.specs.declared.rules.Rules as number
-use Rattle.number.specs.declared.rules.Running.{Running}
+use Rattle.rules.specs.Rules.{rulesOf}
+use Rattle.rules.specs.declared.Rules as number
+use Rattle.rules.specs.declared.Running.{Running}
 use Rattle.event.specs.Event.{eventOf}
 use Rattle.event.specs.declared.track_event.TrackEvent.{TrackEvent}
 use Rattle.writing.specs.Write.{wroteEvent}

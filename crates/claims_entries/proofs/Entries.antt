@@ -5,9 +5,9 @@ use Prim.Native.Nat.{ℕ}
 use denote.Ref.{now}
 use Rattle.smf.specs.Write as write
 use Rattle.smf.specs.Answer as smf
-use Rattle.number.specs.Rules.{rulesOf}
+use Rattle.rules.specs.Rules.{rulesOf}
 use Rattle.number.specs.Varlen.{writeLeft}
-use Rattle.number.specs.declared.rules.Rules.{Rules}
+use Rattle.rules.specs.declared.Rules.{Rules}
 use Rattle.number.specs.declared.varlen.Written.{Written}
 use Rattle.number.proofs.Identical.{writtenTo-injective}
 use Rattle.track.specs.List.{capacity}

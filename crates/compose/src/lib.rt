@@ -5,7 +5,7 @@ ghost use Prim.Native.Nat.{_≤_};
 ghost use lib.ListN.{take, length};
 ghost use Rattle.smf.specs.Write.{over};
 ghost use Rattle.smf.specs.Lists.{RecordsLegal, listed, encodeList, writeList};
-ghost use Rattle.number.specs.Rules.{rulesOf};
+ghost use Rattle.rules.specs.Rules.{rulesOf};
 ghost use Rattle.event.specs.Event.{eventOf};
 ghost use Rattle.track.specs.List.{capacity};
 ghost use Rattle.compose.specs.Written.{wroteList};
@@ -13,10 +13,10 @@ use lengths::ListLength;
 use lengths::ListRefused;
 use lengths::list_length;
 use measure::length::Size;
-use number::rules::Rules;
-use number::rules::Running;
 use put::put_event;
 use refusal::Refusal;
+use rules::Rules;
+use rules::Running;
 use track::list::EventList;
 
 // A refused list leaves every byte and the running status as they came.

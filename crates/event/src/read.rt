@@ -9,23 +9,23 @@ ghost use Rattle.smf.specs.Wire as wire;
 ghost use Rattle.smf.specs.Wire.{withPayload, system, readChannel, readMeta, readStatus, readBody};
 ghost use Rattle.smf.specs.Payload.{readPayload};
 ghost use Rattle.smf.specs.Event as smf;
-ghost use Rattle.number.specs.Rules.{rulesOf};
+ghost use Rattle.rules.specs.Rules.{rulesOf};
 ghost use Rattle.refusal.specs.Refusal.{numberOf};
 ghost use Rattle.event.specs.Event.{kindOf, eventUsed, eventRead};
 use crate::track_event::TrackEvent;
 use crate::track_event::TrackEventKind;
+use int::u4;
+use int::u7;
 use meta::MetaMessage;
 use meta::ReadMeta;
 use midi::MidiMessage;
-use number::rules::Rules;
-use number::rules::Running;
 use number::varlen::ReadNumber;
 use number::varlen::u28;
 use payload::ReadSlice;
 use payload::read_varlen_slice;
 use refusal::Refusal;
-use restricted::u4;
-use restricted::u7;
+use rules::Rules;
+use rules::Running;
 
 // An event that was read, the bytes used, and the running status after it.
 pub struct EventAt {

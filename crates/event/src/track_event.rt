@@ -1,9 +1,9 @@
 // A track event: a delta and a kind.
+use int::u4;
 use meta::MetaMessage;
 use midi::MidiMessage;
-use number::rules::Range;
 use number::varlen::u28;
-use restricted::u4;
+use rules::Range;
 
 pub enum TrackEventKind {
     Midi { channel: u4, message: MidiMessage },

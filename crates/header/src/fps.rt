@@ -4,8 +4,8 @@ ghost use Rattle.smf.specs.Smpte.{rateOfCode, codeOfRate, toRate};
 ghost use Rattle.smf.specs.Seconds.{rateFloat};
 ghost use Rattle.smf.specs.Width.{lowBits};
 ghost use Rattle.header.specs.Fps.{rateOf, triedFps};
+use int::u2;
 use refusal::Refusal;
-use restricted::u2;
 
 pub enum Fps {
     Fps24,

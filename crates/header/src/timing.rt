@@ -6,8 +6,8 @@ use crate::field;
 use crate::fps::Fps;
 use crate::fps::TriedFps;
 use crate::signed;
+use int::u15;
 use refusal::Refusal;
-use restricted::u15;
 
 pub enum Timing {
     // ticks in a beat

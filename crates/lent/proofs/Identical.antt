@@ -3,7 +3,7 @@ use mathlib.Core.Path.{_≡_, sym, ap, ap₂, _∙_}
 use Prim.Native.Nat.{ℕ}
 use Rattle.smf.specs.Wire.{Reading}
 use Rattle.smf.specs.Event.{EventAt}
-use Rattle.number.specs.declared.rules.Running.{Running}
+use Rattle.rules.specs.declared.Running.{Running}
 use Rattle.event.specs.declared.read.ReadEvent.{ReadEvent}
 use Rattle.event.proofs.Identical.{eventRead-injective}
 use Rattle.lent.specs.Lent.{Leaves}

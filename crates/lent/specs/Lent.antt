@@ -3,7 +3,7 @@ use mathlib.Core.Path.{_≡_}
 use Prim.Native.Nat.{ℕ}
 use Rattle.smf.specs.Wire.{Reading, reads, refused}
 use Rattle.smf.specs.Event.{EventAt}
-use Rattle.number.specs.declared.rules.Running.{Running}
+use Rattle.rules.specs.declared.Running.{Running}
 use Rattle.event.specs.Event.{eventRead}
 use Rattle.event.specs.declared.read.ReadEvent.{ReadEvent}
 

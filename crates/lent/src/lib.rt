@@ -1,11 +1,11 @@
 // Reading with a lent running status, the Rust's `&mut Option<u8>`: one thin entry over the reader by value.
 ghost use Rattle.smf.specs.Event.{eventAt};
-ghost use Rattle.number.specs.Rules.{rulesOf};
+ghost use Rattle.rules.specs.Rules.{rulesOf};
 ghost use Rattle.lent.specs.Lent.{Leaves};
 use event::read::ReadEvent;
 use event::track_event::TrackEvent;
-use number::rules::Rules;
-use number::rules::Running;
+use rules::Rules;
+use rules::Running;
 
 // What the reader answers, and beside it the running status that it leaves.
 pub struct Step {

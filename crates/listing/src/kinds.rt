@@ -8,7 +8,7 @@ use header::signed::to_byte;
 use meta::MetaMessage;
 use meta::OptionU16;
 use midi::MidiMessage;
-use number::rules::Range;
+use rules::Range;
 use smpte::SmpteTime;
 
 // A payload, by its place in the input.

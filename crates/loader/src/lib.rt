@@ -7,14 +7,14 @@ ghost use lib.ListN.{length};
 ghost use Rattle.smf.specs.Number.{encodeNumber};
 ghost use Rattle.smf.specs.Place.{NumberAt, Span, numberAt, payloadAt};
 ghost use Rattle.smf.specs.Write.{write, numberBytes, payloadBytes};
-ghost use Rattle.number.specs.Rules.{rulesOf};
+ghost use Rattle.rules.specs.Rules.{rulesOf};
 ghost use Rattle.loader.specs.Entry.{flagged, anyRules, answered, leaves};
-use number::rules::Range;
-use number::rules::Rules;
 use number::varlen::ReadNumber;
 use number::varlen::Written;
 use number::varlen::u28;
 use payload::ReadSlice;
+use rules::Range;
+use rules::Rules;
 
 // The rules that a flag sets: strict where it is not 0.
 pub fn rules(strict: u8) -> Rules

@@ -8,7 +8,7 @@ use bend::BendF32;
 use bend::BendF64;
 use bend::BendInt;
 use bend::PitchBend;
-use restricted::u14;
+use int::u14;
 
 // The raw bend of full bend downwards.
 #[no_mangle]

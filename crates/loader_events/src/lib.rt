@@ -11,9 +11,9 @@ use loader::any_rules;
 use loader::rules;
 use measure::length::EventLength;
 use measure::length::event_length;
-use number::rules::Running;
 use rows::event_row;
 use rows_back::row_event;
+use rules::Running;
 use writing::WroteEvent;
 use writing::write_event;
 

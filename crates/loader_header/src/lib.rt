@@ -15,7 +15,7 @@ use header::fps::TriedFps;
 use header::timing::EncodedTiming;
 use header::timing::ReadTiming;
 use header::timing::Timing;
-use restricted::u15;
+use int::u15;
 
 fn format_number(format: Format) -> u8
     ensures { λ r. ⌜ r ≡ formatOf format ⌝ }

@@ -11,7 +11,7 @@ ghost use Rattle.loader.specs.Entry.{answered, leaves};
 ghost use Rattle.loader_smpte.specs.Smpte.{timeGiven, sixOf};
 use header::fps::Fps;
 use header::fps::TriedFps;
-use restricted::u2;
+use int::u2;
 use smpte::AskedPosition;
 use smpte::AskedSecond;
 use smpte::EncodedSmpteTime;

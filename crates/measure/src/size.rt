@@ -11,9 +11,9 @@ ghost use Rattle.measure.specs.Form.{formBytes, loadLength, formLength, 
 ghost use Rattle.measure.specs.Length.{formLengthSaid};
 use legal::Verdict;
 use legal::form_legality;
-use number::rules::Running;
 use number::varlen::u28;
 use refusal::Refusal;
+use rules::Running;
 use shape::channel::Channel;
 use shape::form::Form;
 

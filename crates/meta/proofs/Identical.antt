@@ -7,7 +7,7 @@ use Rattle.smf.specs.Place.{Span}
 use Rattle.smf.specs.Kind as kind
 use Rattle.smf.specs.MetaAt.{MetaAt}
 use Rattle.smf.proofs.Answer.{injective, answered}
-use Rattle.number.specs.declared.rules.Range.{Range}
+use Rattle.rules.specs.declared.Range.{Range}
 use Rattle.refusal.proofs.RefusalNumbers.{refusalOf, number-back}
 use Rattle.smpte.proofs.Identical.{backSmpteTime, sameSmpteTime}
 use Rattle.meta.specs.Meta.{spanOf, metaOf, metaRead}

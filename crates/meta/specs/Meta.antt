@@ -5,7 +5,7 @@ use Rattle.smf.specs.Place.{Span}
 use Rattle.smf.specs.Kind as kind
 use Rattle.smf.specs.MetaAt.{MetaAt}
 use Rattle.refusal.specs.Refusal.{numberOf}
-use Rattle.number.specs.declared.rules.Range.{Range}
+use Rattle.rules.specs.declared.Range.{Range}
 use Rattle.smpte.specs.Smpte.{smpteTimeOf}
 use Rattle.meta.specs.declared.OptionU16.{OptionU16}
 use Rattle.meta.specs.declared.OptionU16.the-variants as option

@@ -4,8 +4,8 @@ ghost use Rattle.smf.specs.Wire.{tableLength};
 ghost use Rattle.smf.specs.Kind.{messageWith};
 ghost use Rattle.midi.specs.Midi.{messageOf};
 use bend::PitchBend;
-use restricted::u7;
-use restricted::u14;
+use int::u7;
+use int::u14;
 
 pub enum MidiMessage {
     NoteOff { key: u7, vel: u7 },

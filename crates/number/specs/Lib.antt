@@ -1,3 +1,2 @@
 -- What the answers of this crate say, in the paper's numbers.
-pub mod Rules
 pub mod Varlen

@@ -5,10 +5,10 @@ ghost use Rattle.smf.specs.Number.{encodeNumber};
 ghost use Rattle.smf.specs.Place.{numberAt};
 ghost use Rattle.smf.specs.Width.{lowBits, largest, tryWidth};
 ghost use Rattle.smf.specs.Write.{write, numberBytes};
-ghost use Rattle.number.specs.Rules.{rulesOf};
+ghost use Rattle.rules.specs.Rules.{rulesOf};
 ghost use Rattle.number.specs.Varlen.{triedU28, numberRead, writeLeft};
-use crate::rules::Rules;
 use refusal::Refusal;
+use rules::Rules;
 
 // A tick count, a length: what a variable-length number holds.
 pub struct u28(pub u32);

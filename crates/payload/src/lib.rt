@@ -4,15 +4,15 @@ ghost use Prim.Native.Nat.{_+_, _-_, _≤_};
 ghost use lib.ListN.{length, take, drop};
 ghost use Rattle.smf.specs.Place.{payloadAt};
 ghost use Rattle.smf.specs.Write.{over, write, payloadBytes};
-ghost use Rattle.number.specs.Rules.{rulesOf};
+ghost use Rattle.rules.specs.Rules.{rulesOf};
 ghost use Rattle.number.specs.Varlen.{writeLeft};
 ghost use Rattle.payload.specs.Payload.{sliceRead};
-use number::rules::Range;
-use number::rules::Rules;
 use number::varlen::ReadNumber;
 use number::varlen::Written;
 use number::varlen::u28;
 use refusal::Refusal;
+use rules::Range;
+use rules::Rules;
 
 pub enum ReadSlice {
     Slice(Range),

@@ -13,7 +13,7 @@ use header::signed::to_byte;
 use meta::MetaMessage;
 use meta::OptionU16;
 use midi::MidiMessage;
-use number::rules::Range;
+use rules::Range;
 use smpte::SmpteTime;
 
 // A row without its delta.

@@ -14,15 +14,15 @@ use event::track_event::TrackEvent;
 use event::track_event::TrackEventKind;
 use header::fps::Fps;
 use header::signed::from_byte;
+use int::u4;
+use int::u7;
+use int::u14;
+use int::u24;
 use meta::MetaMessage;
 use meta::OptionU16;
 use midi::MidiMessage;
-use number::rules::Range;
 use number::varlen::u28;
-use restricted::u4;
-use restricted::u7;
-use restricted::u14;
-use restricted::u24;
+use rules::Range;
 use smpte::SmpteTime;
 
 fn are_bytes(a: u64, b: u64, c: u64, d: u64, e: u64) -> bool

@@ -6,7 +6,7 @@ use Rattle.smf.specs.Signed.{byteOfSigned}
 use Rattle.smf.specs.Smpte.{codeOfRate}
 use Rattle.smf.specs.Kind.{Meta, trackNumber, noTrackNumber, text, midiChannel, midiPort, endOfTrack, tempo, smpteOffset, timeSignature, keySignature, sequencerSpecific, unknown}
 use Rattle.smf.specs.Event.{metaFits}
-use Rattle.number.specs.declared.rules.Range.{Range}
+use Rattle.rules.specs.declared.Range.{Range}
 use Rattle.shape.specs.declared.form.Own.{Own}
 use Rattle.shape.specs.declared.form.Form.{Form}
 use Rattle.shape.specs.declared.form.Form.the-variants.{AboveWidth, System, Typed, Unknown, Fixed}

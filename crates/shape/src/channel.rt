@@ -4,10 +4,10 @@ ghost use Prim.Native.Nat.{_≤_, _%_};
 ghost use Rattle.midi.specs.Midi.{messageOf};
 ghost use Rattle.shape.specs.Channel.{single, double, highBits, channelOf, channelFits};
 use bend::PitchBend;
+use int::u4;
+use int::u7;
 use midi::MidiMessage;
 use number::varlen::u28;
-use restricted::u4;
-use restricted::u7;
 
 pub struct Channel {
     pub status: u8,

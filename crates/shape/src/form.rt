@@ -7,12 +7,12 @@ ghost use Rattle.smpte.specs.Smpte.{smpteTimeOf};
 ghost use Rattle.meta.specs.Meta.{numberMeta, metaOf};
 ghost use Rattle.shape.specs.Form.{ownOf, metaForm};
 use header::signed::to_byte;
+use int::u4;
+use int::u7;
+use int::u24;
 use meta::MetaMessage;
 use meta::OptionU16;
-use number::rules::Range;
-use restricted::u4;
-use restricted::u7;
-use restricted::u24;
+use rules::Range;
 use smpte::EncodedSmpteTime;
 use smpte::SmpteTime;
 

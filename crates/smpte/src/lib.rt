@@ -6,8 +6,8 @@ ghost use Rattle.smf.specs.Seconds.{secondsOf};
 ghost use Rattle.header.specs.Fps.{rateOf};
 ghost use Rattle.smpte.specs.Smpte.{smpteTimeOf, triedSmpteTime, encodedSmpteTime, askedSecond, askedPosition};
 use header::fps::Fps;
+use int::u2;
 use refusal::Refusal;
-use restricted::u2;
 
 pub struct SmpteTime {
     // below 24

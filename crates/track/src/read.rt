@@ -1,16 +1,16 @@
 // Reading a list of events. It stops at the end of the bytes, full, or at an event that is refused.
 ghost use mathlib.Core.Path.{_≡_};
 ghost use Rattle.smf.specs.Lists.{listAt, heldAs};
-ghost use Rattle.number.specs.Rules.{rulesOf};
+ghost use Rattle.rules.specs.Rules.{rulesOf};
 ghost use Rattle.track.specs.List.{capacity};
 ghost use Rattle.track.specs.Read.{listRead, unreadAt};
 use crate::list::CAPACITY;
 use crate::list::EventList;
 use event::read::ReadEvent;
 use event::track_event::TrackEvent;
-use number::rules::Rules;
-use number::rules::Running;
 use refusal::Refusal;
+use rules::Rules;
+use rules::Running;
 
 // Why reading stopped.
 pub enum Stop {

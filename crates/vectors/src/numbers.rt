@@ -2,10 +2,10 @@
 use crate::text::refused;
 use crate::text::show_first;
 use crate::text::word;
-use number::rules::Rules;
 use number::varlen::ReadNumber;
 use number::varlen::Written;
 use number::varlen::u28;
+use rules::Rules;
 
 const NUMBERS: [u32; 12] = [
     0x0000_0000,

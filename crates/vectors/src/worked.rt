@@ -8,8 +8,8 @@ use crate::text::word;
 use event::read::ReadEvent;
 use event::track_event::TrackEvent;
 use loader_header::apk_timing_read;
-use number::rules::Rules;
-use number::rules::Running;
+use rules::Rules;
+use rules::Running;
 
 // The listing's two events.
 const TWO: [u8; 7] = [0x00, 0x90, 0x3C, 0x40, 0x60, 0x3C, 0x00];

@@ -1,17 +1,17 @@
 // One event written into a lent buffer: the Rust's `TrackEvent::write`.
 ghost use mathlib.Core.Path.{_≡_};
 ghost use Rattle.smf.specs.Event.{writeEvent};
-ghost use Rattle.number.specs.Rules.{rulesOf};
+ghost use Rattle.rules.specs.Rules.{rulesOf};
 ghost use Rattle.event.specs.Event.{eventOf};
 ghost use Rattle.writing.specs.Write.{wroteEvent};
 use event::track_event::TrackEvent;
 use legal::Verdict;
 use legal::legality;
-use number::rules::Rules;
-use number::rules::Running;
 use put::Past;
 use put::put_event;
 use refusal::Refusal;
+use rules::Rules;
+use rules::Running;
 
 // A refused event leaves every byte and the running status as they came.
 pub enum WroteEvent {

@@ -6,7 +6,7 @@ use native.Mathlib.Omega.{arith}
 use borrow.Author.Needs.{needs}
 use Rattle.smf.specs.Lists.{wrote, sizeList}
 use Rattle.refusal.specs.Refusal.{numberOf}
-use Rattle.number.specs.Rules.{rulesOf}
+use Rattle.rules.specs.Rules.{rulesOf}
 use Rattle.event.specs.Event.{eventOf}
 use Rattle.track.specs.List.{capacity}
 use Rattle.lengths.specs.Lengths.{sizeSaid}

@@ -3,7 +3,7 @@ use mathlib.Core.Path.{_≡_, sym, _∙_}
 use mathlib.Core.List.{map}
 use borrow.Author.Needs.{needs}
 use borrow.Author.Tests.{not-true, not-false}
-use Rattle.number.specs.Rules.{rulesOf}
+use Rattle.rules.specs.Rules.{rulesOf}
 use Rattle.event.specs.Event.{eventOf}
 use Rattle.track.specs.List.{capacity}
 use Rattle.lengths.proofs.Sizes.{size-invalid, size-many, size-few}
@@ -12,7 +12,7 @@ use Rattle.lengths.proofs.list_length.Tie as tie
 use Rattle.lengths.proofs.list_length.Reads as reads
 use Rattle.lengths.proofs.list_length.Lts as lts
 use Rattle.lengths.proofs.measure_all.Reads as measure-all-reads
-use Rattle.number.proofs.rules.Running.is_valid.Reads as is-valid-reads
+use Rattle.rules.proofs.Running.is_valid.Reads as is-valid-reads
 
 is-valid-requires : tie.Need-is-valid-requires
 is-valid-requires c κs = search needs

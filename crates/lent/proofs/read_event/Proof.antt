@@ -43,15 +43,15 @@ use denote.Triple.Walked.{says, Stays, stay-ref, stay-none, stay-none-slice, wal
 use denote.Triple.Clauses.{ensured, lasts}
 use denote.Exit.{yes}
 use Rattle.smf.specs.Event.{eventAt}
-use Rattle.number.specs.Rules.{rulesOf}
+use Rattle.rules.specs.Rules.{rulesOf}
 use Rattle.lent.specs.Lent.{Leaves}
-use Rattle.number.specs.declared.rules.Running.{Running}
-use Rattle.number.specs.declared.rules.Rules.{Rules}
+use Rattle.rules.specs.declared.Running.{Running}
+use Rattle.rules.specs.declared.Rules.{Rules}
 use Rattle.lent.specs.declared.Step.{Step}
-use Rattle.number.proofs.rules.Running as T
-use Rattle.number.proofs.rules.Running.Laws as T′
-use Rattle.number.proofs.rules.Rules as R
-use Rattle.number.proofs.rules.Rules.Laws as R′
+use Rattle.rules.proofs.Running as T
+use Rattle.rules.proofs.Running.Laws as T′
+use Rattle.rules.proofs.Rules as R
+use Rattle.rules.proofs.Rules.Laws as R′
 use Rattle.event.proofs.read.ReadEvent as E
 use Rattle.event.proofs.read.ReadEvent.Laws as E′
 use Rattle.lent.proofs.Step as S

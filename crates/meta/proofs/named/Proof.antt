@@ -5,7 +5,7 @@ use denote.Ref.{now}
 use Rattle.smf.specs.Kind.{endOfTrack, sequencerSpecific, unknown}
 use Rattle.smf.specs.Event.{mapMeta}
 use Rattle.smf.proofs.CalledAt.{form-number, form-channel, form-port, form-end, form-sequencer, form-unknown, called-is, called-text}
-use Rattle.number.specs.Rules.{rulesOf}
+use Rattle.rules.specs.Rules.{rulesOf}
 use Rattle.meta.specs.Meta.{spanOf}
 use borrow.Author.Needs.{needs}
 use Rattle.meta.proofs.named.Statement.{statement}

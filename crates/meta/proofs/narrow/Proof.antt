@@ -11,7 +11,7 @@ use Rattle.smf.specs.Place.{Span}
 use Rattle.smf.specs.Kind.{Meta, midiChannel, midiPort}
 use Rattle.smf.specs.Event.{mapMeta}
 use Rattle.smf.proofs.CalledAt.{short, fits-low, fits-lenient, fits-strict}
-use Rattle.number.specs.Rules.{rulesOf}
+use Rattle.rules.specs.Rules.{rulesOf}
 use Rattle.meta.specs.Meta.{spanOf}
 use borrow.Author.Needs.{needs}
 use Rattle.meta.proofs.narrow.Statement.{statement}

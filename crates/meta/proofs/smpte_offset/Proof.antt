@@ -4,7 +4,7 @@ use native.Mathlib.Omega.{arith}
 use denote.Ref.{now}
 use Rattle.smf.proofs.CalledAt.{form-smpte, short, called-time, called-no-time}
 use Rattle.smpte.specs.Smpte.{triedSmpteTime}
-use Rattle.number.specs.Rules.{rulesOf}
+use Rattle.rules.specs.Rules.{rulesOf}
 use Rattle.meta.specs.Meta.{spanOf}
 use borrow.Author.Needs.{needs}
 use Rattle.meta.proofs.smpte_offset.Statement.{statement}

@@ -4,7 +4,7 @@ use native.Mathlib.Omega.{arith}
 use denote.Ref.{now}
 use Rattle.smf.specs.Kind.{tempo}
 use Rattle.smf.proofs.CalledAt.{form-tempo, short, called-tempo}
-use Rattle.number.specs.Rules.{rulesOf}
+use Rattle.rules.specs.Rules.{rulesOf}
 use Rattle.meta.specs.Meta.{spanOf}
 use borrow.Author.Needs.{needs}
 use Rattle.meta.proofs.tempo.Statement.{statement}

@@ -3,7 +3,7 @@ use mathlib.Core.Path.{_≡_, _∙_, refl, sym, ap}
 use native.Mathlib.Omega.{arith}
 use denote.Ref.{now}
 use Rattle.smf.proofs.CalledAt.{form-signature, short, called-signature}
-use Rattle.number.specs.Rules.{rulesOf}
+use Rattle.rules.specs.Rules.{rulesOf}
 use Rattle.meta.specs.Meta.{spanOf}
 use borrow.Author.Needs.{needs}
 use Rattle.meta.proofs.time_signature.Statement.{statement}

@@ -1,6 +1,6 @@
 -- `read_varlen_slice` meets its contract, by what `read_u7` answered.
 use denote.Ref.{now}
-use Rattle.number.specs.Rules.{rulesOf}
+use Rattle.rules.specs.Rules.{rulesOf}
 use Rattle.payload.proofs.Slices.{slice-refused, slice-whole, slice-cut-strict, slice-cut-lenient}
 use borrow.Author.Needs.{needs}
 use Rattle.payload.proofs.read_varlen_slice.Statement.{statement}

@@ -4,7 +4,7 @@ use mathlib.Core.Bool.{true}
 use borrow.Author.Needs.{needs}
 use borrow.Author.Tests.{not-true, not-false}
 use Rattle.smf.specs.Running.{isRunning}
-use Rattle.number.specs.Rules.{rulesOf}
+use Rattle.rules.specs.Rules.{rulesOf}
 use Rattle.event.specs.Event.{eventOf}
 use Rattle.legal.specs.Legal.{verdictOf}
 use Rattle.writing.proofs.Wrote.{wrote-invalid, wrote-illegal, wrote-full, wrote-put}

@@ -6,7 +6,7 @@ use Prim.Native.Nat.{_+_, _<_}
 use lib.ListN.{length}
 use Rattle.smf.specs.Wire.{dataLength}
 use Rattle.smf.proofs.Reading.{channel-length, data-some, data-short, data-top, data-one, data-more, data-second-top, data-two}
-use Rattle.number.specs.Rules.{rulesOf}
+use Rattle.rules.specs.Rules.{rulesOf}
 use borrow.Author.Needs.{needs}
 use Rattle.event.proofs.read.channel.Statement.{statement}
 use Rattle.event.proofs.read.channel.Tie as tie

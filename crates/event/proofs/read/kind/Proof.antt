@@ -5,7 +5,7 @@ use denote.Ref.{now}
 use Rattle.smf.specs.Event.{placed, nameRaw}
 use Rattle.smf.proofs.Place.{site-next}
 use Rattle.smf.proofs.Reading.{body-missing, body-status, body-none, body-running, running-channel}
-use Rattle.number.specs.Rules.{rulesOf}
+use Rattle.rules.specs.Rules.{rulesOf}
 use borrow.Author.Needs.{needs}
 use Rattle.event.proofs.read.kind.Statement.{statement}
 use Rattle.event.proofs.read.kind.Tie as tie

@@ -5,7 +5,7 @@ use denote.Ref.{now}
 use Rattle.smf.proofs.Answer.{said-of, said-refused}
 use Rattle.smf.proofs.Reading.{Answers, meta-answers}
 use Rattle.meta.specs.Meta.{metaRead}
-use Rattle.number.specs.Rules.{rulesOf}
+use Rattle.rules.specs.Rules.{rulesOf}
 use borrow.Author.Needs.{needs}
 use Rattle.event.proofs.read.meta.Statement.{statement}
 use Rattle.event.proofs.read.meta.Tie as tie

@@ -7,7 +7,7 @@ use Rattle.smf.specs.Place.{payloadAt}
 use Rattle.smf.proofs.Reading.{payload-refused, payload-fits, payload-inside, payload-sysEx, payload-escape}
 use Rattle.payload.specs.Payload.{sliceRead}
 use Rattle.meta.specs.Meta.{spanOf}
-use Rattle.number.specs.Rules.{rulesOf}
+use Rattle.rules.specs.Rules.{rulesOf}
 use borrow.Author.Needs.{needs}
 use Rattle.event.proofs.read.payload.Statement.{statement}
 use Rattle.event.proofs.read.payload.Tie as tie

@@ -6,7 +6,7 @@ use mathlib.Core.Logic.{inl, inr}
 use lib.ListN.{drop}
 use Rattle.smf.specs.Event.{placed, nameRaw}
 use Rattle.smf.proofs.Reading.{status-channel, status-meta, status-payload, status-common, status-realtime}
-use Rattle.number.specs.Rules.{rulesOf}
+use Rattle.rules.specs.Rules.{rulesOf}
 use borrow.Author.Needs.{needs}
 use Rattle.event.proofs.read.status_kind.Statement.{statement}
 use Rattle.event.proofs.read.status_kind.Tie as tie

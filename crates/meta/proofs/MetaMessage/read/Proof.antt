@@ -7,7 +7,7 @@ use Rattle.smf.specs.Answer.{gives}
 use Rattle.smf.specs.Place.{payloadAt}
 use Rattle.smf.proofs.Answer.{said-of}
 use Rattle.smf.proofs.MetaAt.{PayloadReached, payload-reached, meta-missing, meta-refused, meta-called}
-use Rattle.number.specs.Rules.{rulesOf}
+use Rattle.rules.specs.Rules.{rulesOf}
 use Rattle.payload.specs.Payload.{sliceRead}
 use Rattle.meta.specs.Meta.{spanOf}
 use borrow.Author.Needs.{needs}

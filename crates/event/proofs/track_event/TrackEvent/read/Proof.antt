@@ -4,7 +4,7 @@ use native.Mathlib.Omega.{arith}
 use denote.Ref.{now}
 use Rattle.smf.proofs.Reading.{event-invalid, event-refused, event-body}
 use Rattle.number.specs.Varlen.{numberRead}
-use Rattle.number.specs.Rules.{rulesOf}
+use Rattle.rules.specs.Rules.{rulesOf}
 use borrow.Author.Needs.{needs}
 use Rattle.event.proofs.track_event.TrackEvent.read.Statement.{statement}
 use Rattle.event.proofs.track_event.TrackEvent.read.Tie as tie

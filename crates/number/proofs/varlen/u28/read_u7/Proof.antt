@@ -1,7 +1,7 @@
 -- `u28::read_u7` meets its contract. The invariant: the walk from here gives what the walk from the start gives.
 use native.Mathlib.Omega.{arith}
 use borrow.Author.Needs.{needs}
-use Rattle.number.specs.Rules.{rulesOf}
+use Rattle.rules.specs.Rules.{rulesOf}
 use Rattle.number.proofs.Walk.{Walking, begun, room-more, cut-strict, cut-lenient, last, fourth-strict, fourth-lenient, more}
 use Rattle.number.proofs.varlen.u28.read_u7.Statement.{statement}
 use Rattle.number.proofs.varlen.u28.read_u7.Tie as tie

@@ -5,7 +5,7 @@ use native.Mathlib.Omega.{arith}
 use borrow.Author.Tests.{not-true, not-false}
 use lib.ListN.{length}
 use borrow.Author.Needs.{needs}
-use Rattle.number.specs.Rules.{rulesOf}
+use Rattle.rules.specs.Rules.{rulesOf}
 use Rattle.track.specs.List.{capacity}
 use Rattle.track.proofs.Reading.{Sofar, invalid, begun, ends, fills, stops, onward, again}
 use Rattle.track.proofs.list.EventList.read.Statement.{statement}
@@ -13,7 +13,7 @@ use Rattle.track.proofs.list.EventList.read.Tie as tie
 use Rattle.track.proofs.list.EventList.read.Reads as reads
 use Rattle.track.proofs.list.EventList.read.Lts as lts
 use Rattle.event.proofs.track_event.TrackEvent.read.Reads as read-reads
-use Rattle.number.proofs.rules.Running.is_valid.Reads as is-valid-reads
+use Rattle.rules.proofs.Running.is_valid.Reads as is-valid-reads
 use Rattle.track.proofs.list.EventList.new.Reads as new-reads
 
 abbrev Inv-loop : tie.InvT-loop

@@ -1,0 +1,2 @@
+-- The rules as the definitions take them.
+pub mod Rules
