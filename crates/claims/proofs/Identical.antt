@@ -147,9 +147,11 @@ events =
       form-legality = λ κs a y z d e p q. verdictOf-injective (p ∙ sym q);
       legality = λ κs a y z d e p q. verdictOf-injective (p ∙ sym q);
       channel-length = λ κs a y z d e p q. p ∙ sym q;
+      bytes-length = λ κs a y z d e p q. lengthSaid-injective (p ∙ sym q);
       form-measure = λ κs a y z d e p q. formLengthSaid-injective (p ∙ sym q);
       measure-event = λ κs a y z d e p q. lengthSaid-injective (p ∙ sym q);
       event-length = λ κs a y z d e p q. lengthSaid-injective (p ∙ sym q);
+      put-bytes = λ κs a y z d e p q. putLeft-injective (p ∙ sym q);
       put-event = λ κs a y z d e p q. putLeft-injective (p ∙ sym q);
       write-event = λ κs a y z d e p q. wroteEvent-injective (a .1 .0 .status) (p ∙ sym q);
     }

@@ -25,7 +25,7 @@ use Rattle.claims.specs.Stands.{EventOrLeft, ListStands}
 use Rattle.claims.specs.Leaves.{EventLeaves, SizeLeaves, ListLeaves}
 use Rattle.claims.specs.Point1.{Numbered, Point1}
 use Rattle.claims.proofs.Calls as calls
-use Rattle.claims.proofs.Refusals.{by-more, number-at-by, payload-at-by, meta-at-by, width-by, format-by, rate-by, timing-by, timing-bytes-by, time-by, time-of-by, time-bytes-by, seconds-by, position-by, bend-by, bend-float-by, number-bytes-by, payload-bytes-by, write-keeps, settled-by, event-size-by, event-length-by, allowed-by, allowed-then-by}
+use Rattle.claims.proofs.Refusals.{by-more, number-at-by, payload-at-by, meta-at-by, width-by, format-by, rate-by, timing-by, timing-bytes-by, time-by, time-of-by, time-bytes-by, seconds-by, position-by, bend-by, bend-float-by, number-bytes-by, payload-bytes-by, write-keeps, settled-by, bytes-length-by, event-size-by, event-length-by, allowed-by, allowed-then-by}
 use Rattle.claims.proofs.Left.{event-or-left}
 use Rattle.claims.proofs.Stands.{list-stands}
 use Rattle.claims.proofs.EventWrites.{event-leaves}
@@ -84,6 +84,7 @@ numbered =
       bend-as-f64 = λ κs a z e told. of (18 ∷ []) (told .0) (bend-float-by binary64 _);
       form-legality = λ κs a z e told. of ofLegality told (allowed-by _ _ _);
       legality = λ κs a z e told. of ofLegality told (settled-by _ _ _);
+      bytes-length = λ κs a z e told. of (18 ∷ []) told (bytes-length-by _ _ _ _);
       form-measure = λ κs a z e told. of ofLegality told (allowed-then-by _ _ _ _);
       measure-event = λ κs a z e told. of ofLegality told (event-size-by _ _ _ _);
       event-length = λ κs a z e told. of ofLength told (event-length-by _ _ _ _);

@@ -26,7 +26,9 @@ use Rattle.meta.specs.Meta.{spanOf}
 use Rattle.legal.specs.Legal.{settled, loadAllowed, unknownAllowed, formAllowed, eventAllowed}
 use Rattle.shape.specs.declared.form.Form.{Form}
 use Rattle.shape.specs.declared.form.Form.the-variants.{AboveWidth, System, Typed, Unknown, Fixed}
-use Rattle.measure.specs.Length.{eventSize}
+use Rattle.shape.specs.Channel.{channelFits, channelRaw}
+use Rattle.shape.specs.declared.channel.Channel.{Channel}
+use Rattle.measure.specs.Length.{rawSize, eventSize}
 use Rattle.claims.specs.Table.{inTable, among, OneOf, By, Keeps, ofNumber, ofPayload, ofMeta, ofLegality, ofLength}
 
 -- going on with a value
@@ -282,6 +284,10 @@ module _ (rules : Rules) (bytes : List ℕ) where
       pick-both (By ofLength) (isRunning running)
       (by-more ofLength ofLegality (eventSize rules running bytes e) refl (event-size-by running e))
       refl
+
+-- a channel message's bytes
+pub bytes-length-by : (running delta channel : ℕ) (c : Channel) → By (18 ∷ []) (pick (channelFits delta channel c) (gives (rawSize running delta (channelRaw c))) (refuses 18))
+bytes-length-by running delta channel c = pick-both (By (18 ∷ [])) (channelFits delta channel c) tt refl
 
 module _ (bytes : List ℕ) where
   load-by : (span : Span) → By ofLegality (loadAllowed bytes span)

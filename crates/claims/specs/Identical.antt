@@ -116,9 +116,11 @@ pub record Events : Type 0 where
   pub form-legality : OneAnswer 1 legal.«form_legality».Kinds.ps legal.«form_legality».Kinds.r legal.«form_legality».Reads.Learnt
   pub legality : OneAnswer 1 legal.legality.Kinds.ps legal.legality.Kinds.r legal.legality.Reads.Learnt
   pub channel-length : OneAnswer 0 measure.size.«channel_length».Kinds.ps measure.size.«channel_length».Kinds.r measure.size.«channel_length».Reads.Learnt
+  pub bytes-length : OneAnswer 0 measure.length.«bytes_length».Kinds.ps measure.length.«bytes_length».Kinds.r measure.length.«bytes_length».Reads.Learnt
   pub form-measure : OneAnswer 1 measure.size.«form_measure».Kinds.ps measure.size.«form_measure».Kinds.r measure.size.«form_measure».Reads.Learnt
   pub measure-event : OneAnswer 1 measure.length.measure.Kinds.ps measure.length.measure.Kinds.r measure.length.measure.Reads.Learnt
   pub event-length : OneAnswer 1 measure.length.«event_length».Kinds.ps measure.length.«event_length».Kinds.r measure.length.«event_length».Reads.Learnt
+  pub put-bytes : OneAnswerAndEnd 1 put.«put_bytes».Kinds.ps put.«put_bytes».Kinds.r put.«put_bytes».Reads.Learnt (λ κs e. now (e .1 .1 .1 .1 .0))
   pub put-event : OneAnswerAndEnd 2 put.«put_event».Kinds.ps put.«put_event».Kinds.r put.«put_event».Reads.Learnt (λ κs e. now (e .1 .1 .1 .1 .0))
   pub write-event : OneAnswerAndEnd 2 writing.«write_event».Kinds.ps writing.«write_event».Kinds.r writing.«write_event».Reads.Learnt (λ κs e. now (e .1 .1 .1 .1 .0))
 

@@ -73,6 +73,7 @@ pub record Numbered : Type 0 where
   -- an event judged and measured
   pub form-legality : Refuses 1 legal.«form_legality».Kinds.ps legal.«form_legality».Kinds.r legal.«form_legality».Reads.Learnt (λ κs. verdictOf) ofLegality
   pub legality : Refuses 1 legal.legality.Kinds.ps legal.legality.Kinds.r legal.legality.Reads.Learnt (λ κs. verdictOf) ofLegality
+  pub bytes-length : Refuses 0 measure.length.«bytes_length».Kinds.ps measure.length.«bytes_length».Kinds.r measure.length.«bytes_length».Reads.Learnt (λ κs. lengthSaid) (18 ∷ [])
   pub form-measure : Refuses 1 measure.size.«form_measure».Kinds.ps measure.size.«form_measure».Kinds.r measure.size.«form_measure».Reads.Learnt (λ κs. formLengthSaid) ofLegality
   pub measure-event : Refuses 1 measure.length.measure.Kinds.ps measure.length.measure.Kinds.r measure.length.measure.Reads.Learnt (λ κs. lengthSaid) ofLegality
   pub event-length : Refuses 1 measure.length.«event_length».Kinds.ps measure.length.«event_length».Kinds.r measure.length.«event_length».Reads.Learnt (λ κs. lengthSaid) ofLength

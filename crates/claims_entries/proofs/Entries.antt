@@ -11,11 +11,13 @@ use Rattle.rules.specs.declared.Rules.{Rules}
 use Rattle.number.specs.declared.varlen.Written.{Written}
 use Rattle.number.proofs.Identical.{writtenTo-injective}
 use Rattle.track.specs.List.{capacity}
+use Rattle.measure.proofs.Identical.{lengthSaid-injective}
+use Rattle.put.proofs.Identical.{putLeft-injective}
 use Rattle.sheet_back.specs.SheetList.{sheetList}
 use Rattle.sheet_back.proofs.Identical.{rowsTaken-injective}
 use Rattle.lent.proofs.Identical.{step-identical}
 use Rattle.loader_same.proofs.Identical.{told-identical, sheets-identical}
-use Rattle.claims_entries.specs.Entries.{Numbers, Headers, Times, Bends, Events, Lists, Sameness, Sheets, Lent, Entries}
+use Rattle.claims_entries.specs.Entries.{Numbers, Headers, Times, Bends, Events, Lists, Sameness, Sheets, Rows, Lent, Entries}
 
 writeLeft-identical : {x y : Written} {b d : List ℕ} → writeLeft x b ≡ writeLeft y d → (x ≡ y) × (b ≡ d)
 writeLeft-identical e = (writtenTo-injective (ap (λ (w : write.Written). w .answer) e), ap (λ (w : write.Written). w .buffer) e)
@@ -103,6 +105,13 @@ sheets =
       rows-list = λ κs a y z d e p q. rowsTaken-injective (p ∙ sym q);
     }
 
+rows : Rows
+rows =
+    record {
+      measure-row = λ κs a y z d e p q. lengthSaid-injective (p ∙ sym q);
+      put-row = λ κs a y z d e p q. putLeft-injective (p ∙ sym q);
+    }
+
 lent : Lent
 lent =
     record {
@@ -110,4 +119,4 @@ lent =
     }
 
 pub entries : Entries
-entries = record { numbers = numbers; headers = headers; times = times; bends = bends; events = events; lists = lists; sameness = sameness; sheets = sheets; lent = lent }
+entries = record { numbers = numbers; headers = headers; times = times; bends = bends; events = events; lists = lists; sameness = sameness; sheets = sheets; rows = rows; lent = lent }

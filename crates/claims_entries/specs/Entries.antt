@@ -15,6 +15,7 @@ use Rattle.loader_bends.proofs as loader-bends
 use Rattle.loader_events.proofs as loader-events
 use Rattle.loader_lists.proofs as loader-lists
 use Rattle.loader_same.proofs as loader-same
+use Rattle.rows_out.proofs as rows-out
 use Rattle.sheet.proofs as sheet
 use Rattle.sheet_back.proofs as sheet-back
 use Rattle.lent.proofs as lent
@@ -91,6 +92,11 @@ pub record Sheets : Type 0 where
   pub row-at : OneAnswer 1 sheet-back.«row_at».Kinds.ps sheet-back.«row_at».Kinds.r sheet-back.«row_at».Reads.Learnt
   pub rows-list : OneAnswer 1 sheet-back.«rows_list».Kinds.ps sheet-back.«rows_list».Kinds.r sheet-back.«rows_list».Reads.Learnt
 
+-- `rows_out`: a row's event, measured and put
+pub record Rows : Type 0 where
+  pub measure-row : OneAnswer 1 rows-out.«measure_row».Kinds.ps rows-out.«measure_row».Kinds.r rows-out.«measure_row».Reads.Learnt
+  pub put-row : OneOutcome 2 rows-out.«put_row».Kinds.ps rows-out.«put_row».Kinds.r rows-out.«put_row».Reads.Learnt (λ κs d e. now (d .1 .1 .1 .1 .0) ≡ now (e .1 .1 .1 .1 .0))
+
 -- `lent`: one event read with the running status handed over
 pub record Lent : Type 0 where
   pub read-step : OneAnswer 1 lent.«read_step».Kinds.ps lent.«read_step».Kinds.r lent.«read_step».Reads.Learnt
@@ -105,4 +111,5 @@ pub record Entries : Type 0 where
   pub lists : Lists
   pub sameness : Sameness
   pub sheets : Sheets
+  pub rows : Rows
   pub lent : Lent

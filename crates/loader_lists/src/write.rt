@@ -6,9 +6,7 @@ ghost use lib.ListN.{length};
 ghost use Rattle.smf.specs.Write.{over};
 ghost use Rattle.smf.specs.Event.{mapEvent, bytesOf};
 ghost use Rattle.smf.specs.Lists.{RecordsLegal, check, encodeList, sizeChecked};
-ghost use Rattle.event.specs.Event.{eventOf};
 ghost use Rattle.track.specs.List.{capacity};
-ghost use Rattle.rows_back.specs.RowEvent.{rowEvent};
 ghost use Rattle.sheet.specs.Sheet.{width};
 ghost use Rattle.sheet_back.specs.SheetList.{rowAt, sheetEvents};
 ghost use Rattle.lengths.specs.Lengths.{sizeSaid};
@@ -16,27 +14,25 @@ ghost use Rattle.compose.specs.Written.{wroteList};
 ghost use Rattle.loader.specs.Entry.{anyRules};
 ghost use Rattle.loader_lists.specs.Lists.{sheetSize, sheetWritten, numberAnswered, lengthLeft, indexLeft};
 use compose::WroteList;
-use event::track_event::TrackEvent;
 use lengths::ListLength;
 use lengths::ListRefused;
 use loader::any_rules;
 use measure::length::EventLength;
 use measure::length::Size;
-use measure::length::measure;
-use put::put_event;
 use refusal::Refusal;
-use rows_back::row_event;
+use rows_out::measure_row;
+use rows_out::put_row;
 use rules::Running;
 use sheet::WIDTH;
 use sheet_back::row_at;
 use track::list::CAPACITY;
 
-// The event of a row.
-fn event_at(rows: &[u64], index: usize) -> TrackEvent
+// A row by its index.
+fn row_of(rows: &[u64], index: usize) -> [u64; 10]
     requires { ⌜ index ≤ capacity ⌝ }
-    ensures { λ r. ⌜ eventOf r ≡ rowEvent (rowAt (now (rows .entry)) (index * width)) ⌝ }
+    ensures { λ r. ⌜ r ≡ rowAt (now (rows .entry)) (index * width) ⌝ }
 {
-    row_event(row_at(rows, index * WIDTH))
+    row_at(rows, index * WIDTH)
 }
 
 // Of rows that are there, and no more than a list holds.
@@ -49,7 +45,7 @@ fn measure_rows(rows: &[u64], count: usize, payload: &[u8], running: Running) ->
     let mut status = running.status;
     let mut index: usize = 0;
     while index < count {
-        match measure(event_at(rows, index), Running { status }, rules, payload) {
+        match measure_row(row_of(rows, index), Running { status }, rules, payload) {
             EventLength::Refused(refusal) => {
                 return ListLength::Refused(ListRefused { refusal, index });
             }
@@ -131,8 +127,8 @@ fn put_rows(rows: &[u64], count: usize, payload: &[u8], running: Running, out: &
     let mut status = running.status;
     let mut index: usize = 0;
     while index < count {
-        let event = event_at(rows, index);
-        let past = put_event(event, Running { status }, rules, payload, out, place);
+        let row = row_of(rows, index);
+        let past = put_row(row, Running { status }, rules, payload, out, place);
         place = past.next;
         status = past.running.status;
         index += 1;

@@ -3,9 +3,8 @@ ghost use mathlib.Core.Path.{_≡_};
 ghost use Rattle.smf.specs.Answer.{pick, gives, refuses, andThen};
 ghost use Rattle.smf.specs.Running.{isRunning};
 ghost use Rattle.rules.specs.Rules.{rulesOf};
-ghost use Rattle.midi.specs.Midi.{messageOf};
 ghost use Rattle.event.specs.Event.{eventOf};
-ghost use Rattle.shape.specs.Channel.{channelOf, channelFits, channelRaw};
+ghost use Rattle.shape.specs.Channel.{channelFits, channelRaw};
 ghost use Rattle.measure.specs.Length.{size, lengthSaid, formLengthSaid, rawSize, eventSize};
 use crate::size::FormLength;
 use crate::size::channel_length;
@@ -13,11 +12,11 @@ use crate::size::form_measure;
 use event::track_event::TrackEvent;
 use event::track_event::TrackEventKind;
 use int::u4;
-use midi::MidiMessage;
 use number::varlen::u28;
 use refusal::Refusal;
 use rules::Rules;
 use rules::Running;
+use shape::channel::Channel;
 use shape::channel::channel_bytes;
 use shape::channel::fits;
 use shape::form::Form;
@@ -34,10 +33,10 @@ pub enum EventLength {
     Refused(Refusal),
 }
 
-fn midi_length(delta: u28, channel: u4, message: MidiMessage, running: Running) -> EventLength
-    ensures { λ r. ⌜ lengthSaid r ≡ pick (channelFits (delta .0) (channel .0) (channelOf (channel .0) (messageOf message))) (gives (rawSize (running .status) (delta .0) (channelRaw (channelOf (channel .0) (messageOf message))))) (refuses 18) ⌝ }
+// Of a channel message's bytes.
+pub fn bytes_length(delta: u28, channel: u4, bytes: Channel, running: Running) -> EventLength
+    ensures { λ r. ⌜ lengthSaid r ≡ pick (channelFits (delta .0) (channel .0) bytes) (gives (rawSize (running .status) (delta .0) (channelRaw bytes))) (refuses 18) ⌝ }
 {
-    let bytes = channel_bytes(channel, message);
     if !fits(delta, channel, bytes) {
         return EventLength::Refused(Refusal::AboveWidth);
     }
@@ -68,7 +67,9 @@ pub fn measure(event: TrackEvent, running: Running, rules: Rules, bytes: &[u8]) 
     let delta = event.delta;
     let kind = event.kind;
     match kind {
-        TrackEventKind::Midi { channel, message } => midi_length(delta, channel, message, running),
+        TrackEventKind::Midi { channel, message } => {
+            bytes_length(delta, channel, channel_bytes(channel, message), running)
+        }
         TrackEventKind::SysEx(load) => cleared(form_measure(
             delta,
             Form::System(0xF0, load),

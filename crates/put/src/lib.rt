@@ -8,9 +8,8 @@ ghost use Rattle.smf.specs.Number.{encodeNumber};
 ghost use Rattle.smf.specs.Wire.{rawEvent, encodeRawEvent, runningAfter};
 ghost use Rattle.smf.specs.Write.{write};
 ghost use Rattle.rules.specs.Rules.{rulesOf};
-ghost use Rattle.midi.specs.Midi.{messageOf};
 ghost use Rattle.event.specs.Event.{eventOf};
-ghost use Rattle.shape.specs.Channel.{channelOf, channelFits, channelRaw};
+ghost use Rattle.shape.specs.Channel.{channelFits, channelRaw};
 ghost use Rattle.legal.specs.Legal.{eventAllowed};
 ghost use Rattle.measure.specs.Form.{formBytes};
 ghost use Rattle.put.specs.Put.{place, placed, past, putLeft, putting, putEvent};
@@ -23,10 +22,10 @@ use int::u4;
 use measure::size::FormLength;
 use measure::size::channel_length;
 use measure::size::form_measure;
-use midi::MidiMessage;
 use number::varlen::u28;
 use rules::Rules;
 use rules::Running;
+use shape::channel::Channel;
 use shape::channel::channel_bytes;
 use shape::channel::fits;
 use shape::form::Form;
@@ -40,17 +39,17 @@ pub struct Past {
     pub running: Running,
 }
 
-fn put_midi(
+// A channel message's bytes behind a delta.
+pub fn put_bytes(
     delta: u28,
     channel: u4,
-    message: MidiMessage,
+    bytes: Channel,
     running: Running,
     out: &mut [u8],
     at: usize,
 ) -> Past
-    ensures { λ r. ⌜ putLeft r (now (out .exit)) ≡ putting (running .status) (runningAfter (channelRaw (channelOf (channel .0) (messageOf message)))) at (write (pick (channelFits (delta .0) (channel .0) (channelOf (channel .0) (messageOf message))) (gives (encodeRawEvent (running .status) (rawEvent (delta .0) (channelRaw (channelOf (channel .0) (messageOf message)))))) (refuses 18)) (now (out .entry)) at) ⌝ }
+    ensures { λ r. ⌜ putLeft r (now (out .exit)) ≡ putting (running .status) (runningAfter (channelRaw bytes)) at (write (pick (channelFits (delta .0) (channel .0) bytes) (gives (encodeRawEvent (running .status) (rawEvent (delta .0) (channelRaw bytes)))) (refuses 18)) (now (out .entry)) at) ⌝ }
 {
-    let bytes = channel_bytes(channel, message);
     if !fits(delta, channel, bytes) {
         return Past { next: at, running };
     }
@@ -116,10 +115,10 @@ pub fn put_event(
     let delta = event.delta;
     let kind = event.kind;
     match kind {
-        TrackEventKind::Midi { channel, message } => put_midi(
+        TrackEventKind::Midi { channel, message } => put_bytes(
             delta,
             channel,
-            message,
+            channel_bytes(channel, message),
             running,
             out,
             at,

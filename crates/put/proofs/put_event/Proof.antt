@@ -7,8 +7,8 @@ use Rattle.put.proofs.put_event.Tie as tie
 
 returns : tie.Need-returns
 returns c =
-    let d = c .before .before .before .before .before in
-    rw (d .kind .given .1) (c .before .before .put-midi .ensures ∙ midi-event _ _ _ _ _ _ _ _)
+    let d = c .before .before .before .before in
+    rw (d .before .before .kind .given .1) (c .before .before .put-bytes .ensures ∙ rw (d .channel-bytes .ensures) (midi-event _ _ _ _ _ _ _ _))
 
 returns-2 : tie.Need-returns-2
 returns-2 c =
@@ -31,6 +31,7 @@ put-event-spec =
     tie.close
     (tie.spec
     (λ c. search needs)
+    (λ c κs. search needs)
     (λ c κs. search needs)
     (λ c. search needs)
     (λ c κs. search needs)

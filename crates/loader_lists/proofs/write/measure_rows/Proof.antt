@@ -6,8 +6,8 @@ use lib.ListN.{length, getD}
 use borrow.Author.Needs.{needs}
 use Rattle.smf.specs.Answer.{Rules}
 use Rattle.smf.specs.Lists.{filler}
-use Rattle.event.specs.Event.{eventOf}
 use Rattle.measure.specs.Length.{lengthSaid, eventSize}
+use Rattle.rows_back.specs.RowEvent.{rowEvent}
 use Rattle.sheet_back.specs.SheetList.{sheetEvents}
 use Rattle.sheet_back.proofs.Lifting.{events-length, event-there}
 use Rattle.lengths.proofs.Measuring.{Seen, seen-first, seen-last, seen-illegal, seen-most, seen-more}
@@ -27,30 +27,30 @@ any-rules-requires c κs = search needs
 loop-holds : tie.Need-loop-holds Inv-loop μ-loop
 loop-holds c = (omega arith, seen-first _ _ _ _)
 
-event-at-requires : tie.Need-event-at-requires Inv-loop μ-loop
-event-at-requires c κs = omega (arith, c .before .before .before .before .before .pre .0)
+row-of-requires : tie.Need-row-of-requires Inv-loop μ-loop
+row-of-requires c κs = omega (arith, c .before .before .before .before .before .pre .0)
 
-measure-requires : tie.Need-measure-requires Inv-loop μ-loop
-measure-requires c κs = search needs
+measure-row-requires : tie.Need-measure-row-requires Inv-loop μ-loop
+measure-row-requires c κs = search needs
 
 -- the row that is measured is an event of the list
-inside : (c : tie.After-measure Inv-loop μ-loop) → let l = c .before .before .before .loop in let a = c .before .before .before .before .before .before .before .args in l .index < length (sheetEvents (a .count) (a .rows .now))
+inside : (c : tie.After-measure-row Inv-loop μ-loop) → let l = c .before .before .before .loop in let a = c .before .before .before .before .before .before .before .args in l .index < length (sheetEvents (a .count) (a .rows .now))
 inside c =
     let a = c .before .before .before .before .before .before .before .args in
     omega (arith, events-length (a .count) (a .rows .now), c .before .before .loop-test .taken)
 
-there : (c : tie.After-measure Inv-loop μ-loop) → let l = c .before .before .before .loop in let a = c .before .before .before .before .before .before .before .args in
-    getD (sheetEvents (a .count) (a .rows .now)) (l .index) filler ≡ eventOf (c .before .event-at .result)
+there : (c : tie.After-measure-row Inv-loop μ-loop) → let l = c .before .before .before .loop in let a = c .before .before .before .before .before .before .before .args in
+    getD (sheetEvents (a .count) (a .rows .now)) (l .index) filler ≡ rowEvent (c .before .row-of .result)
 there c =
     let s = c .before .before .before .before .before .before .before in
-    event-there (s .args .count) (s .args .rows .now) (c .before .before .before .loop .index) filler (s .pre .1) (c .before .before .loop-test .taken) ∙ sym (c .before .event-at .ensures)
+    event-there (s .args .count) (s .args .rows .now) (c .before .before .before .loop .index) filler (s .pre .1) (c .before .before .loop-test .taken) ∙ ap rowEvent (sym (c .before .row-of .ensures))
 
-said : (c : tie.After-measure Inv-loop μ-loop) → let l = c .before .before .before .loop in let a = c .before .before .before .before .before .before .before .args in
-    lengthSaid (c .measure .result) ≡ eventSize anyRules (l .status) (a .payload .now) (eventOf (c .before .event-at .result))
+said : (c : tie.After-measure-row Inv-loop μ-loop) → let l = c .before .before .before .loop in let a = c .before .before .before .before .before .before .before .args in
+    lengthSaid (c .measure-row .result) ≡ eventSize anyRules (l .status) (a .payload .now) (rowEvent (c .before .row-of .result))
 said c =
     let l = c .before .before .before .loop in
     let a = c .before .before .before .before .before .before .before .args in
-    c .measure .ensures ∙ ap (λ (r : Rules). eventSize r (l .status) (a .payload .now) (eventOf (c .before .event-at .result))) (c .before .before .before .before .any-rules .ensures)
+    c .measure-row .ensures ∙ ap (λ (r : Rules). eventSize r (l .status) (a .payload .now) (rowEvent (c .before .row-of .result))) (c .before .before .before .before .any-rules .ensures)
 
 enum-known-refusal : tie.Need-enum-known-refusal Inv-loop μ-loop
 enum-known-refusal c = search needs
@@ -60,7 +60,7 @@ returns c =
     let m = c .before .before .before in
     let l = m .before .before .before .loop in
     let a = m .before .before .before .before .before .before .before .args in
-    seen-illegal anyRules (a .payload .now) (a .running .status) (sheetEvents (a .count) (a .rows .now)) (l .inv .1) (inside m) filler _ (there m) (m .measure .result) (said m)
+    seen-illegal anyRules (a .payload .now) (a .running .status) (sheetEvents (a .count) (a .rows .now)) (l .inv .1) (inside m) filler _ (there m) (m .measure-row .result) (said m)
     (c .before .refusal .given .0 .0) (c .before .refusal .given .1)
 
 enum-known-size : tie.Need-enum-known-size Inv-loop μ-loop
@@ -72,7 +72,7 @@ add-length c =
     let l = m .before .before .before .loop in
     let s = m .before .before .before .before .before .before .before in
     let a = s .args in
-    let most = seen-most anyRules (a .payload .now) (a .running .status) (sheetEvents (a .count) (a .rows .now)) (l .inv .1) (inside m) filler _ (there m) (m .measure .result) (said m)
+    let most = seen-most anyRules (a .payload .now) (a .running .status) (sheetEvents (a .count) (a .rows .now)) (l .inv .1) (inside m) filler _ (there m) (m .measure-row .result) (said m)
     (c .before .before .size .given .0 .0) (c .before .before .size .given .1) in
     omega (arith, most, l .inv .1 .small, s .pre .0)
 
@@ -88,7 +88,7 @@ loop-again c =
     let l = m .before .before .before .loop in
     let a = m .before .before .before .before .before .before .before .args in (
       omega arith,
-      seen-more anyRules (a .payload .now) (a .running .status) (sheetEvents (a .count) (a .rows .now)) (l .inv .1) (inside m) filler _ (there m) (m .measure .result) (said m)
+      seen-more anyRules (a .payload .now) (a .running .status) (sheetEvents (a .count) (a .rows .now)) (l .inv .1) (inside m) filler _ (there m) (m .measure-row .result) (said m)
           (c .before .before .size .given .0 .0) (c .before .before .size .given .1),
     )
 
@@ -106,8 +106,8 @@ measure-rows-spec =
     μ-loop
     any-rules-requires
     loop-holds
-    event-at-requires
-    measure-requires
+    row-of-requires
+    measure-row-requires
     enum-known-refusal
     returns
     enum-known-size

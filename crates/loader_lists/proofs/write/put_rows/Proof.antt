@@ -5,8 +5,8 @@ use native.Mathlib.Omega.{arith}
 use borrow.Author.Needs.{needs}
 use Rattle.smf.specs.Answer.{Rules}
 use Rattle.smf.specs.Lists.{filler}
-use Rattle.event.specs.Event.{eventOf}
 use Rattle.put.specs.Put.{putEvent}
+use Rattle.rows_back.specs.RowEvent.{rowEvent}
 use Rattle.sheet_back.specs.SheetList.{sheetEvents}
 use Rattle.sheet_back.proofs.Lifting.{events-length, event-there}
 use Rattle.compose.proofs.Going.{Going, going-first, going-length, going-last, going-more}
@@ -28,11 +28,11 @@ loop-holds c =
     let p = c .before .before .before .before .pre in
     (omega arith, going-first _ _ _ _ _ (p .2) (p .3))
 
-event-at-requires : tie.Need-event-at-requires Inv-loop μ-loop
-event-at-requires c κs = omega (arith, c .before .before .before .before .before .before .pre .0)
+row-of-requires : tie.Need-row-of-requires Inv-loop μ-loop
+row-of-requires c κs = omega (arith, c .before .before .before .before .before .before .pre .0)
 
-put-event-requires : tie.Need-put-event-requires Inv-loop μ-loop
-put-event-requires c κs = search needs
+put-row-requires : tie.Need-put-row-requires Inv-loop μ-loop
+put-row-requires c κs = search needs
 
 add-index : tie.Need-add-index Inv-loop μ-loop
 add-index c = search needs
@@ -43,15 +43,15 @@ loop-less c = search needs
 loop-again : tie.Need-loop-again Inv-loop μ-loop
 loop-again c =
     let m = c .before .before in
-    let e = m .before .before .event-at in
+    let e = m .before .before .row-of in
     let more = m .before .before .before .loop-test .taken in
     let l = m .before .before .before .before .loop in
     let s = m .before .before .before .before .before .before .before .before .before in
     let a = s .args in (
       omega arith,
       going-more anyRules (a .payload .now) (a .running .status) (sheetEvents (a .count) (a .rows .now)) (a .out .now) (l .inv .1)
-          filler _ (event-there (a .count) (a .rows .now) (l .index) filler (s .pre .1) more ∙ sym (e .ensures)) (m .put-event .result) _ (omega (arith, events-length (a .count) (a .rows .now), more))
-          (m .put-event .ensures ∙ ap (λ (r : Rules). putEvent r (l .status) (a .payload .now) (eventOf (e .result)) (l .out) (l .place)) (m .before .before .before .before .before .any-rules .ensures)),
+          filler _ (event-there (a .count) (a .rows .now) (l .index) filler (s .pre .1) more ∙ ap rowEvent (sym (e .ensures))) (m .put-row .result) _ (omega (arith, events-length (a .count) (a .rows .now), more))
+          (m .put-row .ensures ∙ ap (λ (r : Rules). putEvent r (l .status) (a .payload .now) (rowEvent (e .result)) (l .out) (l .place)) (m .before .before .before .before .before .any-rules .ensures)),
     )
 
 same-length : tie.Need-same-length Inv-loop μ-loop
@@ -71,8 +71,8 @@ put-rows-spec =
     μ-loop
     any-rules-requires
     loop-holds
-    event-at-requires
-    put-event-requires
+    row-of-requires
+    put-row-requires
     add-index
     loop-less
     loop-again

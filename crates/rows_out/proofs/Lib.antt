@@ -1,0 +1,2 @@
+-- Laws on a channel message's row.
+pub mod ChannelRows

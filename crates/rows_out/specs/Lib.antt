@@ -1,0 +1,2 @@
+-- A channel message's row, and the bytes that it has.
+pub mod ChannelRow
