@@ -150,7 +150,7 @@ fn payload(raw: &[u8], at: usize, begun: Begun, status: u8, rules: Rules) -> Rea
     }
 }
 
-// From behind a status byte on.
+// F0..FF, from behind that byte on.
 fn status_kind(
     raw: &[u8],
     at: usize,
@@ -159,12 +159,9 @@ fn status_kind(
     running: Running,
     rules: Rules,
 ) -> ReadEvent
-    requires { ⌜ (Sited (now raw) (begun .start) at) × (at ≤ length (now raw)) × (0x80 ≤ status) ⌝ }
+    requires { ⌜ (Sited (now raw) (begun .start) at) × (at ≤ length (now raw)) × (0xF0 ≤ status) ⌝ }
     ensures { λ r. ⌜ eventRead r ≡ smf.placed (now (raw .entry)) (begun .start) (smf.nameRaw (rulesOf rules) (readStatus (rulesOf rules) (running .status) (begun .delta .0) status (drop at (now (raw .entry))))) ⌝ }
 {
-    if status < 0xF0 {
-        return channel(raw, at, begun, status, rules);
-    }
     match status {
         0xFF => meta(raw, at, begun, rules),
         0xF0 | 0xF7 => payload(raw, at, begun, status, rules),
@@ -186,14 +183,21 @@ fn kind(raw: &[u8], at: usize, begun: Begun, running: Running, rules: Rules) -> 
     if raw.len() <= at {
         return refused(Refusal::NoStatus, running_status);
     }
-    let status = raw[at];
-    if 0x80 <= status {
-        return status_kind(raw, at + 1, begun, status, running, rules);
+    let byte = raw[at];
+    if 0xF0 <= byte {
+        return status_kind(raw, at + 1, begun, byte, running, rules);
     }
-    if running_status == 0 {
+    // A channel message: the two ways meet here, for whether there is a status byte cannot be foreseen.
+    let mut status = running_status;
+    let mut data = at;
+    if 0x80 <= byte {
+        status = byte;
+        data = at + 1;
+    }
+    if status == 0 {
         return refused(Refusal::NoRunningStatus, running_status);
     }
-    channel(raw, at, begun, running_status, rules)
+    channel(raw, data, begun, status, rules)
 }
 
 impl TrackEvent {

@@ -97,7 +97,7 @@ fn narrow_kind(type_byte: u8, byte: u8) -> MetaMessage
 
 // 20 and 21: a byte below a limit; lenient keeps the low bits.
 fn narrow(type_byte: u8, limit: u8, raw: &[u8], load: Range, rules: Rules) -> ReadMeta
-    requires { ⌜ (load .start + load .length ≤ length (now raw)) × (0 < limit) × Narrow «type_byte» limit ⌝ }
+    requires { ⌜ (load .start + load .length ≤ length (now raw)) × Narrow «type_byte» limit ⌝ }
     ensures { λ r. ⌜ metaRead r ≡ calledAt (rulesOf rules) (now (raw .entry)) «type_byte» (spanOf load) ⌝ }
 {
     let start = load.start;

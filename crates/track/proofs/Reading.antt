@@ -1,5 +1,5 @@
 -- What the list reader's loop keeps: the records so far, and that the list from the next place on is what is left of the answer.
-use mathlib.Core.Path.{_≡_, refl, sym, ap, _∙_}
+use mathlib.Core.Path.{_≡_, refl, sym, ap, subst, _∙_}
 use mathlib.Core.Bool.{true, false}
 use mathlib.Core.List.{List, [], _∷_, _++_, map, append-assoc, append-nil}
 use Prim.Native.Nat.{ℕ, zero, suc, _+_, _-_, _≤_, _<_}
@@ -14,6 +14,7 @@ use Rattle.smf.specs.Wire as wire
 use Rattle.smf.specs.Event as smf
 use Rattle.smf.specs.Lists.{Stop, ended, full, stopped, readMore, ListAt, listPlaced, listAt, filler, Held, holding, ListHeld, heldAs}
 use Rattle.smf.proofs.Place.{site-begun}
+use Rattle.smf.proofs.Event.{Reached, EventReached, event-reached}
 use Rattle.smf.proofs.ListPlaces.{stopsThere, inFront, list-begun, list-invalid, more-end, more-full, more-refused, more-step, more-next}
 use Rattle.refusal.specs.Refusal.{numberOf}
 use Rattle.event.specs.Event.{eventOf, eventRead}
@@ -93,9 +94,9 @@ module _ (cap : ℕ) (rules : Rules) (s : List ℕ) (at first : ℕ) where
     pub fills : place < length s → cap ≤ n → Answered xs n full place status
     fills p q = done full (rw (sub-none cap n q) (more-full rules status s at place (h .site) p))
 
-    module _ (r : ReadEvent) (there : eventRead r ≡ smf.eventAt rules status s place) (p : place < length s) where
-      pub stops : (m : EventRefused) → n < cap → r ≡ read.Refused m → Answered xs n (stopped (numberOf (m .refusal))) place status
-      stops m room e =
+    module _ (r : ReadEvent) (there : eventRead r ≡ smf.eventAt rules status s place) where
+      pub stops : (m : EventRefused) → place < length s → n < cap → r ≡ read.Refused m → Answered xs n (stopped (numberOf (m .refusal))) place status
+      stops m p room e =
           let f : smf.eventAt rules status s place ≡ wire.refused (numberOf (m .refusal)) (m .running .status) = sym there ∙ ap eventRead e in
           done (stopped (numberOf (m .refusal))) (rw (left room) (more-refused rules status s at place (h .site) (cap - (n + 1)) p f))
 
@@ -103,16 +104,22 @@ module _ (cap : ℕ) (rules : Rules) (s : List ℕ) (at first : ℕ) where
         found : smf.eventAt rules status s place ≡ wire.reads (record { event = eventOf (a .event); used = a .used; running = a .running .status })
         found = sym there ∙ ap eventRead e
 
+        -- where an event is read there are bytes, whatever was tested before
+        some : place < length s
+        some =
+            let q : Reached rules status s place _ = subst (EventReached rules status s place) found (event-reached rules status s place) in
+            omega (arith, q .some, q .within)
+
         pub onward : (place < place + a .used) × (place + a .used ≤ length s)
-        onward = let q = more-next rules status s at place (h .site) p found in (q .2, q .1)
+        onward = let q = more-next rules status s at place (h .site) some found in (q .2, q .1)
 
         pub again : n < cap → Sofar cap rules s at first (set xs n (a .event)) (place + a .used) (a .running .status) (n + 1)
         again room =
             let es = map eventOf xs in
-            let q = more-next rules status s at place (h .site) p found in
+            let q = more-next rules status s at place (h .site) some found in
             let more = listPlaced s at (readMore rules (cap - (n + 1)) (a .running .status) (drop (place + a .used) s)) in
             let step : listPlaced s at (readMore rules (cap - n) status (drop place s)) ≡ inFront (eventOf (a .event)) more =
-            ap (λ (k : ℕ). listPlaced s at (readMore rules k status (drop place s))) (left room) ∙ more-step rules status s at place (h .site) (cap - (n + 1)) p found
+            ap (λ (k : ℕ). listPlaced s at (readMore rules k status (drop place s))) (left room) ∙ more-step rules status s at place (h .site) (cap - (n + 1)) some found
             in
             record {
               within = omega arith;

@@ -4,9 +4,10 @@ use native.Mathlib.Omega.{arith}
 use denote.Ref.{now}
 use Rattle.smf.specs.Kind.{endOfTrack, sequencerSpecific, unknown}
 use Rattle.smf.specs.Event.{mapMeta}
-use Rattle.smf.proofs.CalledAt.{form-number, form-channel, form-port, form-end, form-sequencer, form-unknown, called-is, called-text}
+use Rattle.smf.proofs.CalledAt.{form-number, form-end, form-sequencer, form-unknown, called-is, called-text}
 use Rattle.rules.specs.Rules.{rulesOf}
 use Rattle.meta.specs.Meta.{spanOf}
+use Rattle.meta.specs.Narrow.{channel, port}
 use borrow.Author.Needs.{needs}
 use Rattle.meta.proofs.named.Statement.{statement}
 use Rattle.meta.proofs.named.Tie as tie
@@ -34,10 +35,10 @@ returns-2 c =
     c .message2 .ensures ∙ rw (c .before .text .ensures) (called-text (rulesOf (s .args .rules)) (now (s .args .raw)) (λ i. c .before .before .before .before .shared-slice-known .given i .fits) (spanOf (s .args .load)) (s .pre) _ (omega arith) (omega arith))
 
 narrow-requires : tie.Need-narrow-requires
-narrow-requires c κs = (c .before .before .before .before .pre, omega arith, form-channel)
+narrow-requires c κs = (c .before .before .before .before .pre, channel)
 
 narrow-requires-2 : tie.Need-narrow-requires-2
-narrow-requires-2 c κs = (c .before .before .before .before .pre, omega arith, form-port)
+narrow-requires-2 c κs = (c .before .before .before .before .pre, port)
 
 message-requires-3 : tie.Need-message-requires-3
 message-requires-3 c κs = search needs

@@ -13,6 +13,7 @@ use Rattle.smf.specs.Event.{mapMeta}
 use Rattle.smf.proofs.CalledAt.{short, fits-low, fits-lenient, fits-strict}
 use Rattle.rules.specs.Rules.{rulesOf}
 use Rattle.meta.specs.Meta.{spanOf}
+use Rattle.meta.proofs.Limits.{form-narrow, limit-some}
 use borrow.Author.Needs.{needs}
 use Rattle.meta.proofs.narrow.Statement.{statement}
 use Rattle.meta.proofs.narrow.Tie as tie
@@ -30,7 +31,7 @@ returns : tie.Need-returns
 unfolding mapMeta
 returns c =
     let s = c .before .before .before .before in
-    c .message .ensures ∙ short (rulesOf (s .args .rules)) (now (s .args .raw)) (λ i. c .before .before .before .shared-slice-known .given i .fits) (spanOf (s .args .load)) (s .pre .0) (s .args .type-byte) 1 _ (s .pre .2 _ _) (c .before .if1 .taken)
+    c .message .ensures ∙ short (rulesOf (s .args .rules)) (now (s .args .raw)) (λ i. c .before .before .before .shared-slice-known .given i .fits) (spanOf (s .args .load)) (s .pre .0) (s .args .type-byte) 1 _ (form-narrow (s .pre .1) _ _) (c .before .if1 .taken)
 
 shared-slice-read-byte : tie.Need-shared-slice-read-byte
 shared-slice-read-byte c = search needs
@@ -47,16 +48,16 @@ returns-2 c =
     let t = s .args .type-byte in
     c .message2 .ensures
     ∙ rw (c .before .narrow-kind .ensures, ← kept (spanOf (s .args .load)) (eqb t 0x20))
-    (fits-low (rulesOf (s .args .rules)) (now (s .args .raw)) (λ i. c .before .before .before .before .before .before .shared-slice-known .given i .fits) (spanOf (s .args .load)) (s .pre .0) t (s .args .limit) (λ n. pick (eqb t 0x20) (midiChannel n) (midiPort n)) (s .pre .2 _ _) (c .before .before .before .before .if1 .left) (c .before .before .if2 .taken))
+    (fits-low (rulesOf (s .args .rules)) (now (s .args .raw)) (λ i. c .before .before .before .before .before .before .shared-slice-known .given i .fits) (spanOf (s .args .load)) (s .pre .0) t (s .args .limit) (λ n. pick (eqb t 0x20) (midiChannel n) (midiPort n)) (form-narrow (s .pre .1) _ _) (c .before .before .before .before .if1 .left) (c .before .before .if2 .taken))
 
 returns-3 : tie.Need-returns-3
 returns-3 c =
     let s = c .before .before .before .before .before .before in
     let t = s .args .type-byte in
-    fits-strict (rulesOf (s .args .rules)) (now (s .args .raw)) (λ i. c .before .before .before .before .before .shared-slice-known .given i .fits) (spanOf (s .args .load)) (s .pre .0) t (s .args .limit) (λ n. pick (eqb t 0x20) (midiChannel n) (midiPort n)) (s .pre .2 _ _) (c .before .before .before .if1 .left) (c .before .if2 .left) (c .if3 .taken)
+    fits-strict (rulesOf (s .args .rules)) (now (s .args .raw)) (λ i. c .before .before .before .before .before .shared-slice-known .given i .fits) (spanOf (s .args .load)) (s .pre .0) t (s .args .limit) (λ n. pick (eqb t 0x20) (midiChannel n) (midiPort n)) (form-narrow (s .pre .1) _ _) (c .before .before .before .if1 .left) (c .before .if2 .left) (c .if3 .taken)
 
 rem-narrow-kind : tie.Need-rem-narrow-kind
-rem-narrow-kind c = omega (arith, c .before .before .before .before .before .before .pre .1)
+rem-narrow-kind c = omega (arith, limit-some (c .before .before .before .before .before .before .pre .1))
 
 narrow-kind-requires-2 : tie.Need-narrow-kind-requires-2
 narrow-kind-requires-2 c κs = search needs
@@ -70,7 +71,7 @@ returns-4 c =
     let t = s .args .type-byte in
     c .message3 .ensures
     ∙ rw (c .before .narrow-kind2 .ensures, ← kept (spanOf (s .args .load)) (eqb t 0x20))
-    (fits-lenient (rulesOf (s .args .rules)) (now (s .args .raw)) (λ i. c .before .before .before .before .before .before .before .shared-slice-known .given i .fits) (spanOf (s .args .load)) (s .pre .0) t (s .args .limit) (λ n. pick (eqb t 0x20) (midiChannel n) (midiPort n)) (s .pre .2 _ _) (c .before .before .before .before .before .if1 .left) (c .before .before .before .if2 .left) (c .before .before .if3 .left))
+    (fits-lenient (rulesOf (s .args .rules)) (now (s .args .raw)) (λ i. c .before .before .before .before .before .before .before .shared-slice-known .given i .fits) (spanOf (s .args .load)) (s .pre .0) t (s .args .limit) (λ n. pick (eqb t 0x20) (midiChannel n) (midiPort n)) (form-narrow (s .pre .1) _ _) (c .before .before .before .before .before .if1 .left) (c .before .before .before .if2 .left) (c .before .before .if3 .left))
 
 pub narrow-spec : {M : Type 1} → statement M
 narrow-spec =

@@ -1,10 +1,13 @@
--- `kind` meets its contract.
-use mathlib.Core.Path.{_≡_, _∙_, sym, ap}
+-- `kind` meets its contract. A channel message's status and the place of its data are by its own status byte, or by the running status.
+use mathlib.Core.Path.{_≡_, _∙_, sym}
+use mathlib.Core.Logic.{⊎-elim}
+use Prim.Native.Nat.{_+_}
 use native.Mathlib.Omega.{arith}
 use denote.Ref.{now}
+use lib.ListN.{drop, getD}
 use Rattle.smf.specs.Event.{placed, nameRaw}
 use Rattle.smf.proofs.Place.{site-next}
-use Rattle.smf.proofs.Reading.{body-missing, body-status, body-none, body-running, running-channel}
+use Rattle.smf.proofs.Reading.{body-missing, body-status, body-none, body-running, running-channel, status-channel}
 use Rattle.rules.specs.Rules.{rulesOf}
 use borrow.Author.Needs.{needs}
 use Rattle.event.proofs.read.kind.Statement.{statement}
@@ -17,8 +20,8 @@ returns : tie.Need-returns
 unfolding placed nameRaw
 returns c = c .refused .ensures ∙ rw (body-missing (rulesOf (c .before .before .before .args .rules)) (c .before .before .before .args .running .status) (c .before .before .before .args .begun .delta .0) (now (c .before .before .before .args .raw)) (c .before .before .before .args .at) (c .before .if1 .taken))
 
-shared-slice-read-status : tie.Need-shared-slice-read-status
-shared-slice-read-status c = search needs
+shared-slice-read-byte : tie.Need-shared-slice-read-byte
+shared-slice-read-byte c = search needs
 
 add-status-kind : tie.Need-add-status-kind
 add-status-kind c = search needs
@@ -27,20 +30,37 @@ status-kind-requires : tie.Need-status-kind-requires
 status-kind-requires c κs = (site-next (now (c .before .before .before .before .args .raw)) (c .before .before .before .before .args .begun .start) (c .before .before .before .before .args .at) (c .before .before .if1 .left) (c .before .before .before .before .pre .0), omega arith, c .if2 .taken)
 
 returns-2 : tie.Need-returns-2
-returns-2 c = c .status-kind .ensures ∙ rw (body-status (rulesOf (c .before .before .before .before .before .args .rules)) (c .before .before .before .before .before .args .running .status) (c .before .before .before .before .before .args .begun .delta .0) (now (c .before .before .before .before .before .args .raw)) (c .before .before .before .before .before .args .at) (c .before .before .before .if1 .left) (c .before .if2 .taken))
+returns-2 c = c .status-kind .ensures ∙ rw (body-status (rulesOf (c .before .before .before .before .before .args .rules)) (c .before .before .before .before .before .args .running .status) (c .before .before .before .before .before .args .begun .delta .0) (now (c .before .before .before .before .before .args .raw)) (c .before .before .before .before .before .args .at) (c .before .before .before .if1 .left) (omega arith))
+
+add-data : tie.Need-add-data
+add-data c = search needs
 
 refused-requires-2 : tie.Need-refused-requires-2
 refused-requires-2 c κs = search needs
 
 returns-3 : tie.Need-returns-3
 unfolding placed nameRaw
-returns-3 c = c .refused2 .ensures ∙ rw (body-none (rulesOf (c .before .before .before .before .before .before .args .rules)) (c .before .before .before .before .before .before .args .running .status) (c .before .before .before .before .before .before .args .begun .delta .0) (now (c .before .before .before .before .before .before .args .raw)) (c .before .before .before .before .before .before .args .at) (c .before .before .before .before .if1 .left) (c .before .before .if2 .left) (c .before .if3 .taken))
+returns-3 c =
+    c .refused2 .ensures
+    ∙ ⊎-elim (λ w. absurd (omega arith))
+    (λ w. rw (body-none (rulesOf (c .before .before .before .before .before .before .before .args .rules)) (c .before .before .before .before .before .before .before .args .running .status) (c .before .before .before .before .before .before .before .args .begun .delta .0) (now (c .before .before .before .before .before .before .before .args .raw)) (c .before .before .before .before .before .before .before .args .at) (c .before .before .before .before .before .if1 .left) (w .0 .left) (sym (w .1) ∙ c .before .if4 .taken)))
+    (c .before .before .if3 .came)
 
 channel-requires : tie.Need-channel-requires
-channel-requires c κs = let r = running-channel (c .before .before .before .before .before .args .running .status) (c .before .before .before .before .before .pre .1) (c .if3 .left) in (c .before .before .before .before .before .pre .0, r .0, r .1)
+channel-requires c κs =
+    ⊎-elim (λ w. (rw (w .2) (site-next (now (c .before .before .before .before .before .before .args .raw)) (c .before .before .before .before .before .before .args .begun .start) (c .before .before .before .before .before .before .args .at) (c .before .before .before .before .if1 .left) (c .before .before .before .before .before .before .pre .0)), omega arith, omega arith))
+    (λ w.
+    let r = running-channel (c .before .before .before .before .before .before .args .running .status) (c .before .before .before .before .before .before .pre .1) (λ z. c .if4 .left (w .1 ∙ z)) in
+    (rw (w .2) (c .before .before .before .before .before .before .pre .0), omega (arith, r), omega (arith, r)))
+    (c .before .if3 .came)
 
 returns-4 : tie.Need-returns-4
-returns-4 c = c .channel .ensures ∙ rw (body-running (rulesOf (c .before .before .before .before .before .before .args .rules)) (c .before .before .before .before .before .before .args .running .status) (c .before .before .before .before .before .before .args .begun .delta .0) (now (c .before .before .before .before .before .before .args .raw)) (c .before .before .before .before .before .before .args .at) (c .before .before .before .before .if1 .left) (c .before .before .if2 .left) (c .before .if3 .left))
+returns-4 c =
+    c .channel .ensures
+    ∙ ⊎-elim
+    (λ w. rw (body-status (rulesOf (c .before .before .before .before .before .before .before .args .rules)) (c .before .before .before .before .before .before .before .args .running .status) (c .before .before .before .before .before .before .before .args .begun .delta .0) (now (c .before .before .before .before .before .before .before .args .raw)) (c .before .before .before .before .before .before .before .args .at) (c .before .before .before .before .before .if1 .left) (w .0 .taken), status-channel (rulesOf (c .before .before .before .before .before .before .before .args .rules)) (c .before .before .before .before .before .before .before .args .running .status) (c .before .before .before .before .before .before .before .args .begun .delta .0) (getD (now (c .before .before .before .before .before .before .before .args .raw)) (c .before .before .before .before .before .before .before .args .at) 0) (drop (c .before .before .before .before .before .before .before .args .at + 1) (now (c .before .before .before .before .before .before .before .args .raw))) (c .before .before .before .if2 .left), w .1, w .2))
+    (λ w. rw (body-running (rulesOf (c .before .before .before .before .before .before .before .args .rules)) (c .before .before .before .before .before .before .before .args .running .status) (c .before .before .before .before .before .before .before .args .begun .delta .0) (now (c .before .before .before .before .before .before .before .args .raw)) (c .before .before .before .before .before .before .before .args .at) (c .before .before .before .before .before .if1 .left) (w .0 .left) (λ z. c .before .if4 .left (w .1 ∙ z)), w .1, w .2))
+    (c .before .before .if3 .came)
 
 pub kind-spec : {M : Type 1} → statement M
 kind-spec =
@@ -48,10 +68,11 @@ kind-spec =
     (tie.spec
     refused-requires
     returns
-    shared-slice-read-status
+    shared-slice-read-byte
     add-status-kind
     status-kind-requires
     returns-2
+    add-data
     refused-requires-2
     returns-3
     channel-requires

@@ -5,17 +5,11 @@ use denote.Ref.{now}
 use mathlib.Core.Logic.{inl, inr}
 use lib.ListN.{drop}
 use Rattle.smf.specs.Event.{placed, nameRaw}
-use Rattle.smf.proofs.Reading.{status-channel, status-meta, status-payload, status-common, status-realtime}
+use Rattle.smf.proofs.Reading.{status-meta, status-payload, status-common, status-realtime}
 use Rattle.rules.specs.Rules.{rulesOf}
 use borrow.Author.Needs.{needs}
 use Rattle.event.proofs.read.status_kind.Statement.{statement}
 use Rattle.event.proofs.read.status_kind.Tie as tie
-
-channel-requires : tie.Need-channel-requires
-channel-requires c κs = search needs
-
-returns : tie.Need-returns
-returns c = c .channel .ensures ∙ rw (status-channel (rulesOf (c .before .before .before .args .rules)) (c .before .before .before .args .running .status) (c .before .before .before .args .begun .delta .0) (c .before .before .before .args .status) (drop (c .before .before .before .args .at) (now (c .before .before .before .args .raw))) (c .before .if1 .taken))
 
 meta-requires : tie.Need-meta-requires
 meta-requires c κs = search needs
@@ -26,34 +20,32 @@ payload-requires c κs = search needs
 refused-requires : tie.Need-refused-requires
 refused-requires c κs = search needs
 
-returns-2 : tie.Need-returns-2
+returns : tie.Need-returns
 unfolding placed nameRaw
-returns-2 c = c .refused .ensures ∙ rw (status-common (rulesOf (c .before .before .before .before .before .args .rules)) (c .before .before .before .before .before .args .running .status) (c .before .before .before .before .before .args .begun .delta .0) (c .before .before .before .before .before .args .status) (drop (c .before .before .before .before .before .args .at) (now (c .before .before .before .before .before .args .raw))) (c .before .before .before .if1 .left) (c .before .before .match .rest .0 .1) (λ e. c .before .before .match .rest .1 (inl e)) (λ e. c .before .before .match .rest .1 (inr e)) (c .before .if2 .taken))
+returns c = c .refused .ensures ∙ rw (status-common (rulesOf (c .before .before .before .before .args .rules)) (c .before .before .before .before .args .running .status) (c .before .before .before .before .args .begun .delta .0) (c .before .before .before .before .args .status) (drop (c .before .before .before .before .args .at) (now (c .before .before .before .before .args .raw))) (c .before .before .before .before .pre .2) (c .before .before .match .rest .0 .1) (λ e. c .before .before .match .rest .1 (inl e)) (λ e. c .before .before .match .rest .1 (inr e)) (c .before .if1 .taken))
 
 refused-requires-2 : tie.Need-refused-requires-2
 refused-requires-2 c κs = search needs
 
+returns-2 : tie.Need-returns-2
+returns-2 c = c .meta .ensures ∙ rw (status-meta (rulesOf (c .before .before .before .args .rules)) (c .before .before .before .args .running .status) (c .before .before .before .args .begun .delta .0) (c .before .before .before .args .status) (drop (c .before .before .before .args .at) (now (c .before .before .before .args .raw))) (c .before .match .keys1))
+
 returns-3 : tie.Need-returns-3
-returns-3 c = c .meta .ensures ∙ rw (status-meta (rulesOf (c .before .before .before .before .args .rules)) (c .before .before .before .before .args .running .status) (c .before .before .before .before .args .begun .delta .0) (c .before .before .before .before .args .status) (drop (c .before .before .before .before .args .at) (now (c .before .before .before .before .args .raw))) (c .before .match .keys1))
+returns-3 c = c .payload .ensures ∙ rw (status-payload (rulesOf (c .before .before .before .args .rules)) (c .before .before .before .args .running .status) (c .before .before .before .args .begun .delta .0) (c .before .before .before .args .status) (drop (c .before .before .before .args .at) (now (c .before .before .before .args .raw))) (c .before .match .keys2))
 
 returns-4 : tie.Need-returns-4
-returns-4 c = c .payload .ensures ∙ rw (status-payload (rulesOf (c .before .before .before .before .args .rules)) (c .before .before .before .before .args .running .status) (c .before .before .before .before .args .begun .delta .0) (c .before .before .before .before .args .status) (drop (c .before .before .before .before .args .at) (now (c .before .before .before .before .args .raw))) (c .before .match .keys2))
-
-returns-5 : tie.Need-returns-5
 unfolding placed nameRaw
-returns-5 c = c .refused2 .ensures ∙ rw (status-realtime (rulesOf (c .before .before .before .before .before .args .rules)) (c .before .before .before .before .before .args .running .status) (c .before .before .before .before .before .args .begun .delta .0) (c .before .before .before .before .before .args .status) (drop (c .before .before .before .before .before .args .at) (now (c .before .before .before .before .before .args .raw))) (c .before .before .before .if1 .left) (c .before .before .match .rest .0 .1) (λ e. c .before .before .match .rest .1 (inl e)) (λ e. c .before .before .match .rest .1 (inr e)) (c .before .if2 .left))
+returns-4 c = c .refused2 .ensures ∙ rw (status-realtime (rulesOf (c .before .before .before .before .args .rules)) (c .before .before .before .before .args .running .status) (c .before .before .before .before .args .begun .delta .0) (c .before .before .before .before .args .status) (drop (c .before .before .before .before .args .at) (now (c .before .before .before .before .args .raw))) (c .before .before .before .before .pre .2) (c .before .before .match .rest .0 .1) (λ e. c .before .before .match .rest .1 (inl e)) (λ e. c .before .before .match .rest .1 (inr e)) (c .before .if1 .left))
 
 pub status-kind-spec : {M : Type 1} → statement M
 status-kind-spec =
     tie.close
     (tie.spec
-    channel-requires
-    returns
     meta-requires
     payload-requires
     refused-requires
-    returns-2
+    returns
     refused-requires-2
+    returns-2
     returns-3
-    returns-4
-    returns-5)
+    returns-4)

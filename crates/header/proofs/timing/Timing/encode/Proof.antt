@@ -1,8 +1,10 @@
 -- `Timing::encode` meets its contract: two bytes of the ticks, or minus the rate and a byte.
 use mathlib.Core.Path.{_≡_, sym, ap, _∙_}
-use Prim.Native.Nat.{_-_, _<_}
+use Prim.Native.Nat.{ℕ, _-_, _<_}
 use native.Mathlib.Omega.{arith}
+use lib.IntN.{pos, _-ℤ_}
 use mir.Syntax.{w8}
+use mir.Val.{SFits, toZ, ofZ}
 use mir.Facts.{toZ-ofZ}
 use Rattle.smf.specs.Signed.{byteOfSigned}
 use Rattle.smf.proofs.Header.{ticks-written, ticks-above, timecode-written}
@@ -46,8 +48,15 @@ small c = omega (arith, c .as-int2 .ensures, rate-is c .small)
 cast-minus : tie.Need-cast-minus
 cast-minus c = record { sfits = omega (arith, small c) }
 
+-- the machine's minus of a small number: it fits, and its byte is 256 less the number
+minus : (n : ℕ) → n < 128 → SFits w8 (pos 0 -ℤ toZ w8 n)
+minus n h = rw (minus-small n h) (minus-fits n h)
+
+byte-minus : (n : ℕ) → n < 128 → 0 < n → byteOfSigned (toZ w8 (ofZ w8 (pos 0 -ℤ toZ w8 n))) ≡ 256 - n
+byte-minus n h some = ap byteOfSigned (toZ-ofZ {w = w8} (minus n h) ∙ minus-small n h) ∙ byte-negated n some
+
 sub-minus : tie.Need-sub-minus
-sub-minus c = rw (minus-small (c .as-int2 .result) (small c)) (minus-fits (c .as-int2 .result) (small c))
+sub-minus c = minus (c .as-int2 .result) (small c)
 
 to-byte-requires : tie.Need-to-byte-requires
 to-byte-requires c κs = search needs
@@ -61,10 +70,8 @@ returns-2 c =
 -- the byte of minus the rate
 byte : (c : tie.After-to-byte) → c .to-byte .result ≡ 256 - rateOf (c .before .before .before .self2 .given .0 .0)
 byte c =
-    let rate = c .before .as-int2 .result in
     c .to-byte .ensures
-    ∙ ap byteOfSigned (toZ-ofZ {w = w8} (sub-minus (c .before)) ∙ minus-small rate (small (c .before)))
-    ∙ byte-negated rate (omega (arith, c .before .as-int2 .ensures, rate-is (c .before) .some))
+    ∙ byte-minus (c .before .as-int2 .result) (small (c .before)) (omega (arith, c .before .as-int2 .ensures, rate-is (c .before) .some))
     ∙ ap (λ n. 256 - n) (c .before .as-int2 .ensures)
 
 returns-3 : tie.Need-returns-3

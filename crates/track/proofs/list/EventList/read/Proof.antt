@@ -70,26 +70,26 @@ add-place : tie.Need-add-place Inv-loop μ-loop
 add-place c =
     let e = c .before .before .before in
     let l = e .before .before .before .before .before .loop in
-    let f = onward capacity _ _ _ _ (l .list .records) (l .place) (l .status) (l .count) (l .inv) (e .before .before .read .result) (e .before .before .read .ensures) (e .before .before .before .before .if2 .left) (e .e .given .0 .0) (e .e .given .1) in
+    let f = onward capacity _ _ _ _ (l .list .records) (l .place) (l .status) (l .count) (l .inv) (e .before .before .read .result) (e .before .before .read .ensures) (e .e .given .0 .0) (e .e .given .1) in
     omega (arith, f .1, e .before .before .before .before .before .before .before .before .before .before .good .0 .0)
 
 loop-less : tie.Need-loop-less Inv-loop μ-loop
 loop-less c =
     let e = c .before .before .before in
     let l = e .before .before .before .before .before .loop in
-    let f = onward capacity _ _ _ _ (l .list .records) (l .place) (l .status) (l .count) (l .inv) (e .before .before .read .result) (e .before .before .read .ensures) (e .before .before .before .before .if2 .left) (e .e .given .0 .0) (e .e .given .1) in
+    let f = onward capacity _ _ _ _ (l .list .records) (l .place) (l .status) (l .count) (l .inv) (e .before .before .read .result) (e .before .before .read .ensures) (e .e .given .0 .0) (e .e .given .1) in
     omega (arith, f .0, f .1)
 
 loop-again : tie.Need-loop-again Inv-loop μ-loop
 loop-again c =
     let e = c .before .before .before in
     let l = e .before .before .before .before .before .loop in
-    again capacity _ _ _ _ (l .list .records) (l .place) (l .status) (l .count) (l .inv) (e .before .before .read .result) (e .before .before .read .ensures) (e .before .before .before .before .if2 .left) (e .e .given .0 .0) (e .e .given .1) (e .before .before .before .if3 .left)
+    again capacity _ _ _ _ (l .list .records) (l .place) (l .status) (l .count) (l .inv) (e .before .before .read .result) (e .before .before .read .ensures) (e .e .given .0 .0) (e .e .given .1) (e .before .before .before .if3 .left)
 
 returns-2 : tie.Need-returns-2 Inv-loop μ-loop
 returns-2 c =
     let l = c .before .loop in
-    ends capacity _ _ _ _ (l .list .records) (l .place) (l .status) (l .count) (l .inv) (c .if2 .taken)
+    ends capacity _ _ _ _ (l .list .records) (l .place) (l .status) (l .count) (l .inv) (omega (arith, c .if2 .taken))
 
 returns-3 : tie.Need-returns-3 Inv-loop μ-loop
 returns-3 c =
@@ -100,7 +100,7 @@ returns-4 : tie.Need-returns-4 Inv-loop μ-loop
 returns-4 c =
     let n = c .before in
     let l = n .before .before .before .before .before .loop in
-    stops capacity _ _ _ _ (l .list .records) (l .place) (l .status) (l .count) (l .inv) (n .before .before .read .result) (n .before .before .read .ensures) (n .before .before .before .before .if2 .left) (n .n .given .0 .0) (n .before .before .before .if3 .left) (n .n .given .1)
+    stops capacity _ _ _ _ (l .list .records) (l .place) (l .status) (l .count) (l .inv) (n .before .before .read .result) (n .before .before .read .ensures) (n .n .given .0 .0) (n .before .before .before .before .if2 .left) (n .before .before .before .if3 .left) (n .n .given .1)
 
 pub read-spec : {M : Type 1} → statement M
 read-spec =
