@@ -5,16 +5,20 @@ use Prim.Native.Nat.{ℕ, suc, _+_, _/_, _%_, _^_, _≤_, _<_}
 use native.Mathlib.Nat.{add-zero, mod-eq-of-lt}
 use native.Mathlib.Numerals.{add-one}
 use native.Mathlib.Omega.{arith}
+use lib.Dec.{eqb}
 use lib.ListN.{length, take, drop, set, length-append, take-append-drop, length-set}
-use lib.Seq.{set-split}
+use lib.Seq.{set-split, take-set-le, drop-set-lt}
 use Rattle.smf.specs.Answer.{Answer, gives}
 use Rattle.smf.specs.Place.{Span}
 use Rattle.smf.specs.Number.{encodeNumber}
 use Rattle.smf.specs.Payload.{encodePayload}
 use Rattle.smf.specs.Write.{Written, over, put, write, payloadBytes}
 use Rattle.smf.specs.Event.{bytesOf}
+use Rattle.smf.proofs.Answer.{by-test}
 use Rattle.smf.proofs.Number.{ahead-none}
 use Rattle.smf.proofs.Write.{over-over, length-over, put-fits, part-bytes, payload-size}
+use Rattle.shape.specs.declared.channel.Channel.{Channel}
+use Rattle.measure.specs.Channel.{statusBytes, dataBytes}
 use Rattle.measure.specs.Form.{loadLength, Inside}
 use Rattle.put.specs.Store.{Stored}
 use Rattle.measure.proofs.FormBytes.{part-length}
@@ -28,6 +32,23 @@ over-one s at b h = set-split s at b h ∙ rw (add-one at)
 -- a byte, and then more behind it
 pub over-cons : (s : List ℕ) (at b : ℕ) (bs : List ℕ) → at < length s → over bs (set s at b) (at + 1) ≡ over (b ∷ bs) s at
 over-cons s at b bs h = ap (λ (l : List ℕ). over bs l (at + 1)) (over-one s at b h) ∙ over-over (b ∷ []) bs s at (omega arith)
+
+-- a byte that more stands over
+over-hidden : (s : List ℕ) (at b : ℕ) (bs : List ℕ) → at < length s → 0 < length bs → over bs (over (b ∷ []) s at) at ≡ over bs s at
+over-hidden s at b bs h some =
+    rw (← over-one s at b h, take-set-le at s at b (omega arith), drop-set-lt (at + length bs) s at b (omega arith))
+
+-- a status, left out where it is the running status, and more behind it
+pub over-status : (running status : ℕ) (bs s : List ℕ) (at : ℕ) → at < length s → 0 < length bs
+    → over bs (over (status ∷ []) s at) (at + length (statusBytes running status)) ≡ over (statusBytes running status ++ bs) s at
+over-status running status bs s at h some =
+    by-test (eqb running status)
+    (λ t. rw (t, add-zero at) (over-hidden s at status bs h some))
+    (λ t. rw t (over-over (status ∷ []) bs s at (omega arith)))
+
+-- a message has some data
+pub data-some : (c : Channel) → 0 < length (dataBytes c)
+data-some c = by-test (c .pair) (λ t. rw t (omega arith)) (λ t. rw t (omega arith))
 
 -- bytes, and then more behind them
 pub over-both : {s after : List ℕ} {at next : ℕ} {a : List ℕ} (b : List ℕ) → Stored s at a next after → at ≤ length s → over b after next ≡ over (a ++ b) s at

@@ -1,6 +1,6 @@
 // Bytes stored where there is room for them, by what they are. What is asked of the caller is tested once, in front.
 ghost use mathlib.Core.Path.{_≡_};
-ghost use mathlib.Core.List.{_∷_};
+ghost use mathlib.Core.List.{[], _∷_};
 ghost use Prim.Native.Nat.{_+_, _^_, _<_, _≤_};
 ghost use lib.ListN.{length};
 ghost use Rattle.smf.specs.Answer.{gives};
@@ -37,15 +37,16 @@ pub fn put_delta(delta: u28, out: &mut [u8], at: usize) -> usize
     at + delta.varlen_length()
 }
 
-// The status byte is left out exactly when it is the running status.
+// The place of the data. The status byte is left out exactly when it is the running status: it is stored all the same,
+// and the data then stands over it, for whether it is cannot be foreseen.
 fn put_status(status: u8, running: Running, out: &mut [u8], at: usize) -> usize
-    requires { ⌜ at + length (statusBytes (running .status) status) ≤ length (now out) ⌝ }
-    ensures { λ r. ⌜ Stored (now (out .entry)) at (statusBytes (running .status) status) r (now (out .exit)) ⌝ }
+    requires { ⌜ at < length (now out) ⌝ }
+    ensures { λ r. ⌜ (r ≡ at + length (statusBytes (running .status) status)) × (now (out .exit) ≡ over (status ∷ []) (now (out .entry)) at) ⌝ }
 {
+    out[at] = status;
     if running.status == status {
         return at;
     }
-    out[at] = status;
     at + 1
 }
 
