@@ -7,6 +7,7 @@ ghost use Rattle.smf.specs.Answer.{andThen};
 ghost use Rattle.smf.specs.Seconds.{rateFloat, secondsOf};
 ghost use Rattle.smf.specs.Smpte.{toRate, rateOfCode, codeOfRate, toTime, timeOf, encodeTime, position};
 ghost use Rattle.smf.specs.Width.{lowBits};
+ghost use Rattle.smpte.specs.Smpte.{triedSmpteTime};
 ghost use Rattle.loader.specs.Entry.{answered, leaves};
 ghost use Rattle.loader_smpte.specs.Smpte.{timeGiven, sixOf};
 use header::fps::Fps;
@@ -68,6 +69,23 @@ pub extern "C" fn apk_fps_as_f32(rate: u8, frames: &mut f32) -> u8
             *frames = fps.as_f32();
             0
         }
+    }
+}
+
+// The time of six numbers, in its ranges or not.
+fn time_given(hour: u8, minute: u8, second: u8, frame: u8, subframe: u8, rate: u8) -> TriedSmpteTime
+    ensures { λ r. ⌜ triedSmpteTime r ≡ timeGiven hour minute second frame subframe rate ⌝ }
+{
+    match Fps::from_int(rate) {
+        TriedFps::Refused(refusal) => TriedSmpteTime::Refused(refusal),
+        TriedFps::Made(fps) => TriedSmpteTime::Made(SmpteTime {
+            hour,
+            minute,
+            second,
+            frame,
+            subframe,
+            fps,
+        }),
     }
 }
 
@@ -135,25 +153,15 @@ pub extern "C" fn apk_smpte_encode(
     ensures answer { λ r. ⌜ r ≡ answered (andThen (timeGiven hour minute second frame subframe rate) encodeTime) ⌝ }
     ensures bytes { λ r. ⌜ now (bytes .exit) ≡ leaves (λ (b : List ℕ). b) (andThen (timeGiven hour minute second frame subframe rate) encodeTime) (now (bytes .entry)) ⌝ }
 {
-    match Fps::from_int(rate) {
-        TriedFps::Refused(refusal) => refusal.number(),
-        TriedFps::Made(fps) => {
-            let time = SmpteTime {
-                hour,
-                minute,
-                second,
-                frame,
-                subframe,
-                fps,
-            };
-            match time.encode() {
-                EncodedSmpteTime::Refused(refusal) => refusal.number(),
-                EncodedSmpteTime::Bytes(first, minute, second, frame, subframe) => {
-                    *bytes = [first, minute, second, frame, subframe];
-                    0
-                }
+    match time_given(hour, minute, second, frame, subframe, rate) {
+        TriedSmpteTime::Refused(refusal) => refusal.number(),
+        TriedSmpteTime::Made(time) => match time.encode() {
+            EncodedSmpteTime::Refused(refusal) => refusal.number(),
+            EncodedSmpteTime::Bytes(first, minute, second, frame, subframe) => {
+                *bytes = [first, minute, second, frame, subframe];
+                0
             }
-        }
+        },
     }
 }
 
@@ -171,25 +179,15 @@ pub extern "C" fn apk_smpte_second_f32(
     ensures answer { λ r. ⌜ r ≡ answered (andThen (timeGiven hour minute second frame subframe rate) secondsOf) ⌝ }
     ensures seconds { λ r. ⌜ now (seconds .exit) ≡ leaves (λ (x : Float). x) (andThen (timeGiven hour minute second frame subframe rate) secondsOf) (now (seconds .entry)) ⌝ }
 {
-    match Fps::from_int(rate) {
-        TriedFps::Refused(refusal) => refusal.number(),
-        TriedFps::Made(fps) => {
-            let time = SmpteTime {
-                hour,
-                minute,
-                second,
-                frame,
-                subframe,
-                fps,
-            };
-            match time.second_f32() {
-                AskedSecond::Refused(refusal) => refusal.number(),
-                AskedSecond::Is(found) => {
-                    *seconds = found;
-                    0
-                }
+    match time_given(hour, minute, second, frame, subframe, rate) {
+        TriedSmpteTime::Refused(refusal) => refusal.number(),
+        TriedSmpteTime::Made(time) => match time.second_f32() {
+            AskedSecond::Refused(refusal) => refusal.number(),
+            AskedSecond::Is(found) => {
+                *seconds = found;
+                0
             }
-        }
+        },
     }
 }
 
@@ -207,24 +205,14 @@ pub extern "C" fn apk_smpte_position(
     ensures answer { λ r. ⌜ r ≡ answered (andThen (timeGiven hour minute second frame subframe rate) position) ⌝ }
     ensures subframes { λ r. ⌜ now (subframes .exit) ≡ leaves (λ (n : ℕ). n) (andThen (timeGiven hour minute second frame subframe rate) position) (now (subframes .entry)) ⌝ }
 {
-    match Fps::from_int(rate) {
-        TriedFps::Refused(refusal) => refusal.number(),
-        TriedFps::Made(fps) => {
-            let time = SmpteTime {
-                hour,
-                minute,
-                second,
-                frame,
-                subframe,
-                fps,
-            };
-            match time.position() {
-                AskedPosition::Refused(refusal) => refusal.number(),
-                AskedPosition::Is(found) => {
-                    *subframes = found;
-                    0
-                }
+    match time_given(hour, minute, second, frame, subframe, rate) {
+        TriedSmpteTime::Refused(refusal) => refusal.number(),
+        TriedSmpteTime::Made(time) => match time.position() {
+            AskedPosition::Refused(refusal) => refusal.number(),
+            AskedPosition::Is(found) => {
+                *subframes = found;
+                0
             }
-        }
+        },
     }
 }

@@ -1,54 +1,21 @@
--- `loader::smpte::apk_smpte_position` meets its contract, by what `from_int` and `position` ensure of their answers. Assumes nothing.
+-- `apk_smpte_position` meets its contract, by what `time_given` and `position` ensure of their answers.
 use mathlib.Core.Path.{refl}
 use borrow.Author.Needs.{needs}
 use Rattle.loader_smpte.proofs.apk_smpte_position.Statement.{statement}
 use Rattle.loader_smpte.proofs.apk_smpte_position.Tie as tie
 
-from-int-requires : tie.Need-from-int-requires
-from-int-requires c κs = search needs
-
-enum-known-refusal : tie.Need-enum-known-refusal
-enum-known-refusal c = search needs
-
-number-requires : tie.Need-number-requires
-number-requires c κs = search needs
-
-enum-known-fps : tie.Need-enum-known-fps
-enum-known-fps c = search needs
-
-position-requires : tie.Need-position-requires
-position-requires c κs = search needs
-
-enum-known-refusal-2 : tie.Need-enum-known-refusal-2
-enum-known-refusal-2 c = search needs
-
-number-requires-2 : tie.Need-number-requires-2
-number-requires-2 c κs = search needs
-
-enum-known-found : tie.Need-enum-known-found
-enum-known-found c = search needs
-
-returns : tie.Need-returns
-returns c = simp (← c .number .ensures, c .before .before .refusal .given .1, ← c .before .before .before .before .from-int .ensures) (refl, refl)
-
-returns-2 : tie.Need-returns-2
-returns-2 c = simp (← c .number2 .ensures, c .before .before .refusal2 .given .1, ← c .before .before .before .before .position .ensures, c .before .before .before .before .before .before .fps .given .1, ← c .before .before .before .before .before .before .before .before .from-int .ensures) (refl, refl)
-
-returns-3 : tie.Need-returns-3
-returns-3 c = simp (c .before .found .given .1, ← c .before .before .before .position .ensures, c .before .before .before .before .before .fps .given .1, ← c .before .before .before .before .before .before .before .from-int .ensures) (refl, refl)
-
 pub apk-smpte-position-spec : {M : Type 1} → statement M
 apk-smpte-position-spec =
     tie.close
     (tie.spec
-    from-int-requires
-    enum-known-refusal
-    number-requires
-    enum-known-fps
-    position-requires
-    enum-known-refusal-2
-    number-requires-2
-    enum-known-found
-    returns
-    returns-2
-    returns-3)
+    (λ c κs. search needs)
+    (λ c. search needs)
+    (λ c κs. search needs)
+    (λ c. search needs)
+    (λ c κs. search needs)
+    (λ c. search needs)
+    (λ c κs. search needs)
+    (λ c. search needs)
+    (λ c. simp (← c .number .ensures, c .before .before .refusal .given .1, ← c .before .before .before .before .time-given .ensures) (refl, refl))
+    (λ c. simp (← c .number2 .ensures, c .before .before .refusal2 .given .1, ← c .before .before .before .before .position .ensures, c .before .before .before .before .before .before .time .given .1, ← c .before .before .before .before .before .before .before .before .time-given .ensures) (refl, refl))
+    (λ c. simp (c .before .found .given .1, ← c .before .before .before .position .ensures, c .before .before .before .before .before .time .given .1, ← c .before .before .before .before .before .before .before .time-given .ensures) (refl, refl)))
