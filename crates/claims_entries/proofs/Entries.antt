@@ -1,26 +1,18 @@
 -- Each promise is an equation for the answer and for each lent value: two that it permits are equal to the same.
 use mathlib.Core.Path.{_≡_, refl, sym, ap, _∙_}
-use mathlib.Core.List.{List}
-use Prim.Native.Nat.{ℕ}
 use denote.Ref.{now}
-use Rattle.smf.specs.Write as write
 use Rattle.smf.specs.Answer as smf
 use Rattle.rules.specs.Rules.{rulesOf}
-use Rattle.number.specs.Varlen.{writeLeft}
 use Rattle.rules.specs.declared.Rules.{Rules}
-use Rattle.number.specs.declared.varlen.Written.{Written}
-use Rattle.number.proofs.Identical.{writtenTo-injective}
 use Rattle.track.specs.List.{capacity}
 use Rattle.measure.proofs.Identical.{lengthSaid-injective}
 use Rattle.put.proofs.Identical.{putLeft-injective}
+use Rattle.sheet.proofs.Identical.{rowsLeft-identical}
 use Rattle.sheet_back.specs.SheetList.{sheetList}
 use Rattle.sheet_back.proofs.Identical.{rowsTaken-injective}
 use Rattle.lent.proofs.Identical.{step-identical}
 use Rattle.loader_same.proofs.Identical.{told-identical, sheets-identical}
 use Rattle.claims_entries.specs.Entries.{Numbers, Headers, Times, Bends, Events, Lists, Sameness, Sheets, Rows, Lent, Entries}
-
-writeLeft-identical : {x y : Written} {b d : List ℕ} → writeLeft x b ≡ writeLeft y d → (x ≡ y) × (b ≡ d)
-writeLeft-identical e = (writtenTo-injective (ap (λ (w : write.Written). w .answer) e), ap (λ (w : write.Written). w .buffer) e)
 
 rulesOf-injective : {x y : Rules} → rulesOf x ≡ rulesOf y → x ≡ y
 rulesOf-injective e = ap (λ (r : smf.Rules). record { strict = r .strict }) e
@@ -100,7 +92,7 @@ sameness =
 sheets : Sheets
 sheets =
     record {
-      list-rows = λ κs a y z d e p q. writeLeft-identical (p ∙ sym q);
+      read-rows = λ κs a y z d e p q. rowsLeft-identical (p ∙ sym q);
       row-at = λ κs a y z d e p q. p ∙ sym q;
       rows-list = λ κs a y z d e p q. rowsTaken-injective (p ∙ sym q);
     }

@@ -88,7 +88,7 @@ pub record Sameness : Type 0 where
 
 -- `sheet`, `sheet_back`: a list as rows of numbers, and back
 pub record Sheets : Type 0 where
-  pub list-rows : OneOutcome 1 sheet.«list_rows».Kinds.ps sheet.«list_rows».Kinds.r sheet.«list_rows».Reads.Learnt (λ κs d e. now (d .1 .0) ≡ now (e .1 .0))
+  pub read-rows : OneOutcome 2 sheet.«read_rows».Kinds.ps sheet.«read_rows».Kinds.r sheet.«read_rows».Reads.Learnt (λ κs d e. now (d .1 .1 .1 .1 .0) ≡ now (e .1 .1 .1 .1 .0))
   pub row-at : OneAnswer 1 sheet-back.«row_at».Kinds.ps sheet-back.«row_at».Kinds.r sheet-back.«row_at».Reads.Learnt
   pub rows-list : OneAnswer 1 sheet-back.«rows_list».Kinds.ps sheet-back.«rows_list».Kinds.r sheet-back.«rows_list».Reads.Learnt
 

@@ -1,24 +1,21 @@
 -- What follows from a sheet's list for reading, measuring and writing it.
-use mathlib.Core.Path.{_≡_, ap, _∙_}
+use mathlib.Core.Path.{_≡_, refl}
 use mathlib.Core.Bool.{true, false}
-use mathlib.Core.List.{List, map}
+use mathlib.Core.List.{List}
 use Prim.Native.Nat.{ℕ}
-use lib.ListN.{length, take}
+use native.Mathlib.Omega.{arith}
+use lib.ListN.{take}
 use lib.Seq.{take-append-seam}
-use Rattle.smf.specs.Answer.{gives, refuses}
+use Rattle.smf.specs.Answer.{Answer, gives, refuses, andThen}
 use Rattle.smf.specs.Place.{Span}
 use Rattle.smf.specs.Running.{isRunning}
 use Rattle.smf.specs.Event.{Event}
-use Rattle.smf.specs.Write.{Written, put}
-use Rattle.smf.specs.Lists.{ListAt, Held, holding, ListHeld, heldAs, unsized, sizeList, listLeft, writeList}
-use Rattle.event.specs.Event.{eventOf}
+use Rattle.smf.specs.Lists.{ListAt, Held, holding, unsized, sizeList, listLeft, writeList}
 use Rattle.track.specs.List.{capacity}
-use Rattle.track.specs.Read.{stopOf, listRead}
-use Rattle.track.specs.declared.read.ReadList.{ReadList}
-use Rattle.sheet.specs.Sheet.{sheetOf}
+use Rattle.sheet.specs.Read.{SheetAt, sheetAt}
 use Rattle.sheet_back.specs.SheetList.{sheetList}
 use Rattle.loader.specs.Entry.{anyRules}
-use Rattle.loader_lists.specs.Lists.{stopNumber, sheetPut, sheetSize, sheetWritten}
+use Rattle.loader_lists.specs.Lists.{sheetSize, sheetWritten}
 
 -- a list counts the events that it was made of
 pub held-events : (most : ℕ) (es : List (Event Span)) → take (holding most es .count) (holding most es .records) ≡ es
@@ -53,23 +50,12 @@ module _ (running : ℕ) (payload cells : List ℕ) (count : ℕ) where
     unfolding sheetWritten
     write-list v e = rw (v, e)
 
--- what a list that was read holds
-module _ (l : ListAt) (r : ReadList) (e : listRead r ≡ heldAs capacity l) where
-  pub read-count : r .list .count ≡ length (l .events)
-  unfolding holding
-  read-count = ap (λ (h : ListHeld). h .list .count) e
+-- what putting the rows of a list answered, by what reading it into cells did
+module _ (l : ListAt) where
+  pub rows-refused : (a : Answer ℕ) (n : ℕ) → refuses n ≡ andThen a (λ (k : ℕ). gives (sheetAt l)) → refuses n ≡ a
+  rows-refused (gives k) n e = let z : _≡_ {A = ℕ} 0 1 = cc in absurd (omega arith)
+  rows-refused (refuses m) n e = cc
 
-  pub read-stop : stopNumber (stopOf (r .stop)) ≡ stopNumber (l .stop)
-  read-stop = ap (λ (h : ListHeld). stopNumber (h .stop)) e
-
-  pub read-place : r .place ≡ l .place
-  read-place = ap (λ (h : ListHeld). h .place) e
-
-  pub read-running : r .running .status ≡ l .running
-  read-running = ap (λ (h : ListHeld). h .running) e
-
-  read-events : take (r .list .count) (map eventOf (r .list .records)) ≡ l .events
-  read-events = ap (λ (h : ListHeld). take (h .list .count) (h .list .records)) e ∙ held-events capacity (l .events)
-
-  pub read-put : (cells : List ℕ) (w : Written) → w ≡ put (sheetOf (take (r .list .count) (map eventOf (r .list .records)))) cells 0 → w ≡ sheetPut l cells
-  read-put cells w p = p ∙ ap (λ (es : List (Event Span)). put (sheetOf es) cells 0) read-events
+  pub rows-read : (a : Answer ℕ) (x : SheetAt) → gives x ≡ andThen a (λ (k : ℕ). gives (sheetAt l)) → (k : ℕ) × (gives k ≡ a) × (x ≡ sheetAt l)
+  rows-read (gives k) x e = (k, refl, cc)
+  rows-read (refuses m) x e = let z : _≡_ {A = ℕ} 0 1 = cc in absurd (omega arith)

@@ -6,10 +6,9 @@ ghost use Rattle.track.specs.Read.{stopOf};
 ghost use Rattle.loader.specs.Entry.{leaves};
 ghost use Rattle.loader_lists.specs.Lists.{stopNumber, listGiven, sheetPut, readAnswer};
 use loader::rules;
-use number::varlen::Written;
 use rules::Running;
-use sheet::list_rows;
-use track::list::EventList;
+use sheet::ReadRows;
+use sheet::read_rows;
 use track::read::Stop;
 
 // Why reading stopped: 0 at the end, 255 full, else the refusal's number.
@@ -43,12 +42,10 @@ pub extern "C" fn apk_list_read(
     ensures place { λ r. ⌜ now (place .exit) ≡ leaves (λ (n : ℕ). listGiven strict running (now (bytes .entry)) at .place) (sheetPut (listGiven strict running (now (bytes .entry)) at) (now (rows .entry)) .answer) (now (place .entry)) ⌝ }
     ensures after { λ r. ⌜ now (after .exit) ≡ leaves (λ (n : ℕ). listGiven strict running (now (bytes .entry)) at .running) (sheetPut (listGiven strict running (now (bytes .entry)) at) (now (rows .entry)) .answer) (now (after .entry)) ⌝ }
 {
-    let read = EventList::read(bytes, at, Running { status: running }, rules(strict));
-    let list = read.list;
-    match list_rows(list, rows) {
-        Written::Refused(refusal) => refusal.number(),
-        Written::Next(_) => {
-            *count = list.count;
+    match read_rows(bytes, at, Running { status: running }, rules(strict), rows) {
+        ReadRows::Refused(refusal) => refusal.number(),
+        ReadRows::Rows(read) => {
+            *count = read.count;
             *place = read.place;
             *after = read.running.status;
             let stop = read.stop;

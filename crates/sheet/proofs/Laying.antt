@@ -1,19 +1,29 @@
--- What the loop that puts a list's rows keeps: the rows so far stand in front.
+-- What the loop that reads a list into cells keeps: the rows of the events so far stand in front.
 use mathlib.Core.Path.{_≡_, refl, sym, ap, _∙_}
+use mathlib.Core.Bool.{true, false}
 use mathlib.Core.List.{List, [], _∷_, _++_, append-assoc, append-nil}
-use Prim.Native.Nat.{ℕ, suc, _+_, _*_, _≤_, _<_, min}
+use Prim.Native.Nat.{ℕ, suc, _+_, _*_, _≤_, _<_}
 use native.Mathlib.Omega.{arith}
-use native.Mathlib.Numerals.{add-one}
-use lib.ListN.{length, take, getD, length-append, length-take}
-use lib.Seq.{take-suc, take-length, take-take, length-take-le}
+use lib.Dec.{leb}
+use lib.ListN.{length, length-append}
+use borrow.Author.Tests.{leb-false}
+use Rattle.smf.specs.Answer.{Rules, gives, refuses}
+use Rattle.smf.specs.Running.{isRunning}
 use Rattle.smf.specs.Place.{Span}
 use Rattle.smf.specs.Kind as kind
-use Rattle.smf.specs.Event.{Event}
-use Rattle.smf.specs.Write.{over, left, put}
-use Rattle.smf.specs.Answer.{gives}
+use Rattle.smf.specs.Event.{Event, eventAt}
+use Rattle.smf.specs.Write.{over}
+use Rattle.smf.specs.Lists.{Stop, stopped, listAt}
 use Rattle.smf.proofs.Write.{length-over, over-over, put-fits, put-full}
+use Rattle.smf.proofs.ListPlaces.{list-invalid}
+use Rattle.event.specs.Event.{eventOf, eventRead}
+use Rattle.event.specs.declared.read.ReadEvent.{ReadEvent}
+use Rattle.event.specs.declared.read.ReadEvent.the-variants as read
+use Rattle.event.specs.declared.read.EventAt.{EventAt}
+use Rattle.track.proofs.Reading.{Sofar, Answered, begun, among, again}
 use Rattle.rows.specs.Rows.{eventRow, kindRow, midiRow, metaRow}
 use Rattle.sheet.specs.Sheet.{width, sheetOf}
+use Rattle.sheet.specs.Read.{readSheet}
 
 -- every row has as many cells
 midi-length : (channel : ℕ) (m : kind.Message) → length (midiRow channel m) ≡ 9
@@ -62,67 +72,62 @@ sheet-one : (e : Event Span) → sheetOf (e ∷ []) ≡ eventRow e
 unfolding sheetOf
 sheet-one e = append-nil (eventRow e)
 
-sheet-next : (es : List (Event Span)) (i : ℕ) (d : Event Span) → i < length es → sheetOf (take (i + 1) es) ≡ sheetOf (take i es) ++ eventRow (getD es i d)
-sheet-next es i d h =
-    ap (λ (n : ℕ). sheetOf (take n es)) (add-one i)
-    ∙ ap sheetOf (take-suc es i d h)
-    ∙ sheet-append (take i es) (getD es i d ∷ [])
-    ∙ ap (λ (l : List ℕ). sheetOf (take i es) ++ l) (sheet-one (getD es i d))
+-- one row more, behind
+sheet-next : (es : List (Event Span)) (e : Event Span) → sheetOf (es ++ (e ∷ [])) ≡ sheetOf es ++ eventRow e
+sheet-next es e = sheet-append es (e ∷ []) ∙ ap (λ (l : List ℕ). sheetOf es ++ l) (sheet-one e)
 
-module _ (es : List (Event Span)) (before : List ℕ) where
-  pub record Laying (out : List ℕ) (at i : ℕ) : Type 0 where
-    pub within : i ≤ length es
-    pub room : length es * width ≤ length before
-    pub stands : at ≡ i * width
-    pub rows : out ≡ over (sheetOf (take i es)) before 0
-
-  pub laying-first : length es * width ≤ length before → Laying before 0 0
+-- what is left where nothing is read, and where the cells are too few
+module _ (cap : ℕ) (rules : Rules) (s : List ℕ) (at first : ℕ) (cells : List ℕ) where
+  pub unread : isRunning first ≡ false
+      → record { cells = cells; answer = gives (record { count = 0; stop = stopped 1; place = at; running = first }) } ≡ readSheet (listAt rules cap first s at) cells
   unfolding sheetOf
-  laying-first r = record { within = omega arith; room = r; stands = refl; rows = refl }
+  unread v = rw (list-invalid rules cap first s at v, ← put-fits [] cells 0 (omega arith))
 
-  module _ {out : List ℕ} {at i : ℕ} (g : Laying out at i) where
-    front : length (sheetOf (take i es)) ≡ i * width
-    front = sheet-length (take i es) ∙ ap (λ (n : ℕ). n * width) (length-take-le i es (g .within))
+  pub short : leb (length (listAt rules cap first s at .events) * width) (length cells) ≡ false
+      → record { cells = cells; answer = refuses 20 } ≡ readSheet (listAt rules cap first s at) cells
+  short h =
+      let es = listAt rules cap first s at .events in
+      rw (← put-full (sheetOf es) cells 0 (omega (arith, sheet-length es, leb-false (length es * width) (length cells) h)))
 
-    pub laying-length : length out ≡ length before
-    laying-length = ap length (g .rows) ∙ length-over (sheetOf (take i es)) before 0 (omega (arith, front, g .within, g .room))
+pub record Laying (cap : ℕ) (rules : Rules) (s : List ℕ) (at first : ℕ) (before out : List ℕ) (place status n : ℕ) : Type 0 where
+  pub events : List (Event Span)
+  pub sofar : Sofar cap rules s at first events place status n
+  pub rows : out ≡ over (sheetOf events) before 0
 
-    pub laying-room : i < length es → at + width ≤ length out
-    laying-room more = omega (arith, laying-length, g .stands, g .room)
+pub laying-first : (cap : ℕ) (rules : Rules) (s : List ℕ) (at first : ℕ) (before : List ℕ) → isRunning first ≡ true → Laying cap rules s at first before before at first 0
+unfolding sheetOf
+laying-first cap rules s at first before v = record { events = []; sofar = begun cap rules s at first v; rows = refl }
 
-    pub laying-more : (d : Event Span) (end : List ℕ) → i < length es → end ≡ over (eventRow (getD es i d)) out at → Laying end (at + width) (i + 1)
-    laying-more d end more e =
-        let own = eventRow (getD es i d) in
-        let there : at ≡ 0 + length (sheetOf (take i es)) = omega (arith, front, g .stands) in
+module _ {cap : ℕ} {rules : Rules} {s : List ℕ} {at first : ℕ} {before out : List ℕ} {place status n : ℕ} (room : length (listAt rules cap first s at .events) * width ≤ length before) (g : Laying cap rules s at first before out place status n) where
+  front : length (sheetOf (g .events)) ≡ n * width
+  front = sheet-length (g .events) ∙ ap (λ (k : ℕ). k * width) (g .sofar .counted)
+
+  fits : 0 + length (sheetOf (g .events)) ≤ length before
+  fits = omega (arith, front, among (g .sofar), room)
+
+  pub laying-length : length out ≡ length before
+  laying-length = ap length (g .rows) ∙ length-over (sheetOf (g .events)) before 0 fits
+
+  -- the answer, where the list of the events so far is all
+  pub laid : (stop : Stop) → Answered cap rules s at first (g .events) stop place status
+      → record { cells = out; answer = gives (record { count = n; stop = stop; place = place; running = status }) } ≡ readSheet (listAt rules cap first s at) before
+  laid stop q = rw (q, ← put-fits (sheetOf (g .events)) before 0 fits, g .sofar .counted, g .rows)
+
+  module _ (r : ReadEvent) (there : eventRead r ≡ eventAt rules status s place) (a : EventAt) (e : r ≡ read.Event a) (few : n < cap) where
+    pub laying-room : n * width + width ≤ length out
+    laying-room = omega (arith, laying-length, room, among (again (g .sofar) r there a e few))
+
+    pub laying-more : (end : List ℕ) → end ≡ over (eventRow (eventOf (a .event))) out (n * width) → Laying cap rules s at first before end (place + a .used) (a .running .status) (n + 1)
+    laying-more end put =
+        let own = eventRow (eventOf (a .event)) in
+        let behind : n * width ≡ 0 + length (sheetOf (g .events)) = omega (arith, front) in
         record {
-          within = omega arith;
-          room = g .room;
-          stands = omega (arith, g .stands);
+          events = g .events ++ (eventOf (a .event) ∷ []);
+          sofar = again (g .sofar) r there a e few;
           rows =
-              e
-              ∙ ap (λ (n : ℕ). over own out n) there
-              ∙ ap (λ (l : List ℕ). over own l (0 + length (sheetOf (take i es)))) (g .rows)
-              ∙ over-over (sheetOf (take i es)) own before 0 (omega arith)
-              ∙ ap (λ (l : List ℕ). over l before 0) (sym (sheet-next es i d more));
+              put
+              ∙ ap (λ (k : ℕ). over own out k) behind
+              ∙ ap (λ (l : List ℕ). over own l (0 + length (sheetOf (g .events)))) (g .rows)
+              ∙ over-over (sheetOf (g .events)) own before 0 (omega arith)
+              ∙ ap (λ (l : List ℕ). over l before 0) (sym (sheet-next (g .events) (eventOf (a .event))));
         }
-
-    pub laying-last : i ≡ length es → out ≡ over (sheetOf es) before 0
-    laying-last e = g .rows ∙ ap (λ (l : List (Event Span)). over (sheetOf l) before 0) (ap (λ (k : ℕ). take k es) e ∙ take-length es)
-
--- the events that there are to a count, and their cells
-module _ (es : List (Event Span)) (cap count n : ℕ) (long : length es ≡ cap) (held : n ≡ min count cap) where
-  same-events : take n es ≡ take count es
-  same-events =
-      let all : n ≡ length (take count es) = omega (arith, length-take count es) in
-      sym (take-take n count es (omega arith)) ∙ ap (λ (k : ℕ). take k (take count es)) all ∙ take-length (take count es)
-
-  same-cells : length (sheetOf (take count es)) ≡ n * width
-  same-cells = sheet-length (take count es) ∙ ap (λ (k : ℕ). k * width) (length-take count es ∙ omega arith)
-
-  pub laid-short : (s : List ℕ) → length s < n * width → left s 20 ≡ put (sheetOf (take count es)) s 0
-  laid-short s h = put-full (sheetOf (take count es)) s 0 (omega (arith, same-cells))
-
-  pub laid : (s end : List ℕ) → n * width ≤ length s → end ≡ over (sheetOf (take n es)) s 0 → record { buffer = end; answer = gives (n * width) } ≡ put (sheetOf (take count es)) s 0
-  laid s end h e =
-      let cells : n * width ≡ 0 + length (sheetOf (take count es)) = omega (arith, same-cells) in
-      rw (e, same-events) (ap (λ (k : ℕ). record { buffer = over (sheetOf (take count es)) s 0; answer = gives k }) cells ∙ put-fits (sheetOf (take count es)) s 0 (omega (arith, same-cells)))

@@ -1,2 +1,3 @@
--- Lists as rows of numbers.
+-- Lists as rows of numbers, and reading them so.
 pub mod Sheet
+pub mod Read

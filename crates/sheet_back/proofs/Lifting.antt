@@ -1,19 +1,19 @@
 -- What the loop that takes rows as a list keeps: the events so far stand in front, and behind them what an empty list holds.
 use mathlib.Core.Path.{_≡_, refl, sym, ap, _∙_}
-use mathlib.Core.List.{List, [], _∷_, _++_, map, append-assoc}
-use Prim.Native.Nat.{ℕ, zero, suc, _+_, _-_, _*_, _≤_, _<_}
+use mathlib.Core.List.{List, [], _∷_, _++_}
+use Prim.Native.Nat.{ℕ, zero, suc, _+_, _*_, _≤_, _<_}
 use native.Mathlib.Omega.{arith}
 use native.Mathlib.Numerals.{add-one}
-use lib.ListN.{length, take, drop, getD, set, replicate, length-append, length-map, length-replicate}
-use lib.Seq.{set-at, drop-drop}
+use lib.ListN.{length, take, drop, getD, set, replicate}
+use lib.Seq.{drop-drop}
 use borrow.Author.Tests.{le-leb, lt-leb}
 use Rattle.smf.specs.Answer.{Answer, gives, refuses}
 use Rattle.smf.specs.Place.{Span}
 use Rattle.smf.specs.Event as smf
-use Rattle.smf.specs.Lists.{filler, Held, holding}
+use Rattle.smf.specs.Lists.{Held, holding}
 use Rattle.event.specs.Event.{eventOf}
 use Rattle.event.specs.declared.track_event.TrackEvent.{TrackEvent}
-use Rattle.track.proofs.Held.{map-set}
+use Rattle.track.proofs.Held.{Holds, holds-none, holds-more}
 use Rattle.rows_back.specs.RowEvent.{rowEvent}
 use Rattle.sheet.specs.Sheet.{width}
 use Rattle.sheet_back.specs.SheetList.{rowAt, sheetEvents, sheetList}
@@ -59,45 +59,22 @@ event-there n cells i d enough more = events-at n cells i d more ∙ ap rowEvent
 
 module _ (cap : ℕ) (cells : List ℕ) where
   pub record Lifting (xs : List TrackEvent) (at i : ℕ) : Type 0 where
-    pub within : i ≤ cap
     pub stands : at ≡ i * width
-    pub held : map eventOf xs ≡ sheetEvents i cells ++ replicate (cap - i) filler
+    pub held : Holds cap xs i (sheetEvents i cells)
 
-  sub-zero : cap ≡ cap - 0
-  sub-zero = omega arith
-
-  pub lifting-first : (xs : List TrackEvent) (n : ℕ) → record { records = map eventOf xs; count = n } ≡ holding cap [] → Lifting xs 0 0
-  unfolding holding sheetEvents
-  lifting-first xs n e = record { within = omega arith; stands = refl; held = ap (λ (h : Held). h .records) e }
+  pub lifting-first : (xs : List TrackEvent) (n : ℕ) → Holds cap xs n [] → Lifting xs 0 0
+  unfolding sheetEvents
+  lifting-first xs n e = record { stands = refl; held = holds-none cap xs n e }
 
   module _ {xs : List TrackEvent} {at i : ℕ} (g : Lifting xs at i) where
-    pub lifting-long : length xs ≡ cap
-    lifting-long =
-        sym (length-map xs eventOf)
-        ∙ ap length (g .held)
-        ∙ length-append (sheetEvents i cells) (replicate (cap - i) filler)
-        ∙ omega (arith, events-length i cells, length-replicate (cap - i) filler, g .within)
-
     pub lifting-more : (row : List ℕ) (e : TrackEvent) → i < cap → row ≡ take width (drop at cells) → eventOf e ≡ rowEvent row → Lifting (set xs i e) (at + width) (i + 1)
     lifting-more row e room r f =
-        let left : cap - i ≡ suc (cap - (i + 1)) = omega arith in
-        let rest = replicate (cap - (i + 1)) filler in
         let there : eventOf e ≡ rowEvent (take width (drop (i * width) cells)) = f ∙ ap rowEvent (r ∙ ap (λ (n : ℕ). take width (drop n cells)) (g .stands)) in
-        record {
-          within = omega arith;
-          stands = omega (arith, g .stands);
-          held =
-              map-set eventOf xs i e
-              ∙ ap (λ (l : List (smf.Event Span)). set l i (eventOf e)) (g .held ∙ ap (λ (k : ℕ). sheetEvents i cells ++ replicate k filler) left)
-              ∙ set-at (sheetEvents i cells) filler rest (eventOf e) i (events-length i cells)
-              ∙ ap (λ (x : smf.Event Span). sheetEvents i cells ++ (x ∷ rest)) there
-              ∙ sym (append-assoc (sheetEvents i cells) (rowEvent (take width (drop (i * width) cells)) ∷ []) rest)
-              ∙ ap (λ (l : List (smf.Event Span)). l ++ rest) (sym (events-next i cells) ∙ ap (λ (k : ℕ). sheetEvents k cells) (sym (add-one i)));
-        }
+        let next : sheetEvents (i + 1) cells ≡ sheetEvents i cells ++ (eventOf e ∷ []) = rw (add-one i, there) (events-next i cells) in
+        record { stands = omega (arith, g .stands); held = holds-more cap xs i (sheetEvents i cells) e room (g .held) ∙ ap (holding cap) (sym next) }
 
-    pub lifting-last : (count : ℕ) → i ≡ count → record { records = map eventOf xs; count = count } ≡ holding cap (sheetEvents count cells)
-    unfolding holding
-    lifting-last count e = rw (events-length count cells, ← e, ← g .held)
+    pub lifting-last : (count : ℕ) → i ≡ count → Holds cap xs count (sheetEvents count cells)
+    lifting-last count e = rw (← e) (g .held)
 
   -- what the count and the cells say
   module _ (count : ℕ) where

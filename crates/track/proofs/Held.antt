@@ -1,8 +1,12 @@
 -- Records as the code holds them, and as the definitions take them.
 use mathlib.Core.Path.{_≡_, refl, sym, ap, _∙_}
-use mathlib.Core.List.{List, [], _∷_, map}
-use Prim.Native.Nat.{ℕ, zero, suc}
-use lib.ListN.{length, set, length-map, replicate}
+use mathlib.Core.List.{List, [], _∷_, _++_, map, append-assoc}
+use Prim.Native.Nat.{ℕ, zero, suc, _+_, _-_, _<_}
+use native.Mathlib.Omega.{arith}
+use lib.ListN.{length, set, length-append, length-map, replicate}
+use lib.Seq.{set-at}
+use Rattle.smf.specs.Place.{Span}
+use Rattle.smf.specs.Event.{Event}
 use Rattle.smf.specs.Lists.{filler, Held, holding}
 use Rattle.event.specs.Event.{eventOf}
 use Rattle.event.specs.declared.track_event.TrackEvent.{TrackEvent}
@@ -32,3 +36,27 @@ unmapped f l n p = sym (length-map l f) ∙ p
 pub made : (e : TrackEvent) → eventOf e ≡ filler → record { records = map eventOf (replicate capacity e); count = 0 } ≡ holding capacity []
 unfolding holding
 made e f = rw (map-replicate eventOf capacity e, f)
+
+-- records of which n count hold these events, and the filler behind them
+abbrev pub Holds : ℕ → List TrackEvent → ℕ → List (Event Span) → Type 0
+Holds cap xs n es = record { records = map eventOf xs; count = n } ≡ holding cap es
+
+-- none of them counts
+pub holds-none : (cap : ℕ) (xs : List TrackEvent) (n : ℕ) → Holds cap xs n [] → Holds cap xs 0 []
+unfolding holding
+holds-none cap xs n h = let none : n ≡ 0 = ap (λ (l : Held). l .count) h in rw none at h
+
+-- one event more
+pub holds-more : (cap : ℕ) (xs : List TrackEvent) (n : ℕ) (es : List (Event Span)) (e : TrackEvent) → n < cap → Holds cap xs n es → Holds cap (set xs n e) (n + 1) (es ++ (eventOf e ∷ []))
+unfolding holding
+holds-more cap xs n es e room h =
+    let own = eventOf e ∷ [] in
+    let counted : length es ≡ n = sym (ap (λ (l : Held). l .count) h) in
+    let count : length (es ++ own) ≡ n + 1 = length-append es own ∙ omega arith in
+    let left : cap - length es ≡ suc (cap - (n + 1)) = omega arith in
+    let rest = replicate (cap - (n + 1)) filler in
+    let there : map eventOf xs ≡ es ++ (filler ∷ rest) = ap (λ (l : Held). l .records) h ∙ ap (λ (k : ℕ). es ++ replicate k filler) left in
+    let records : map eventOf (set xs n e) ≡ (es ++ own) ++ rest =
+    map-set eventOf xs n e ∙ ap (λ (l : List (Event Span)). set l n (eventOf e)) there ∙ set-at es filler rest (eventOf e) n counted ∙ sym (append-assoc es own rest)
+    in
+    rw (count, records)

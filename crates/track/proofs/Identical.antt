@@ -25,12 +25,12 @@ sameHeld : (l : EventList) → backHeld (heldOf l) ≡ l
 unfolding backHeld
 sameHeld l = rw (sameEvents (l .records))
 
-backStop : smf.Stop → Stop
+pub backStop : smf.Stop → Stop
 backStop smf.ended = stop.End
 backStop smf.full = stop.Full
 backStop (smf.stopped n) = stop.Refused (refusalOf n)
 
-sameStop : (s : Stop) → backStop (stopOf s) ≡ s
+pub sameStop : (s : Stop) → backStop (stopOf s) ≡ s
 unfolding backStop
 sameStop stop.End = refl
 sameStop stop.Full = refl

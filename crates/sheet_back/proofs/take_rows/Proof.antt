@@ -3,7 +3,7 @@ use Prim.Native.Nat.{_-_, _≤_}
 use native.Mathlib.Omega.{arith}
 use borrow.Author.Needs.{needs}
 use Rattle.track.specs.List.{capacity}
-use Rattle.sheet_back.proofs.Lifting.{Lifting, lifting-first, lifting-long, lifting-more, lifting-last}
+use Rattle.sheet_back.proofs.Lifting.{Lifting, lifting-first, lifting-more, lifting-last}
 use Rattle.sheet_back.proofs.take_rows.Statement.{statement}
 use Rattle.sheet_back.proofs.take_rows.Tie as tie
 
@@ -33,9 +33,7 @@ mul-event : tie.Need-mul-event Inv-loop μ-loop
 mul-event c = search needs
 
 element-set-from-event : tie.Need-element-set-from-event Inv-loop μ-loop
-element-set-from-event c =
-    let l = c .before .before .before .loop in
-    omega (arith, lifting-long capacity _ (l .inv .1), c .before .before .before .before .before .before .pre .0)
+element-set-from-event c = search needs
 
 add-at : tie.Need-add-at Inv-loop μ-loop
 add-at c =

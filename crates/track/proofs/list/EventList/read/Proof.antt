@@ -1,28 +1,25 @@
 -- The list reader meets its contract: an invalid running status, and its loop's turns and stops.
-use mathlib.Core.Path.{_≡_, sym, _∙_}
+use mathlib.Core.Path.{sym, _∙_}
 use Prim.Native.Nat.{_-_}
 use native.Mathlib.Omega.{arith}
 use borrow.Author.Tests.{not-true, not-false}
 use lib.ListN.{length}
 use borrow.Author.Needs.{needs}
+use Rattle.smf.specs.Lists.{ended, full, stopped}
+use Rattle.refusal.specs.Refusal.{numberOf}
 use Rattle.rules.specs.Rules.{rulesOf}
 use Rattle.track.specs.List.{capacity}
-use Rattle.track.proofs.Reading.{Sofar, invalid, begun, ends, fills, stops, onward, again}
+use Rattle.track.proofs.Reading.{ends, fills, stops, onward}
+use Rattle.track.proofs.Filling.{Filling, invalid, filling-first, filled, filling-more}
 use Rattle.track.proofs.list.EventList.read.Statement.{statement}
 use Rattle.track.proofs.list.EventList.read.Tie as tie
-use Rattle.track.proofs.list.EventList.read.Reads as reads
-use Rattle.track.proofs.list.EventList.read.Lts as lts
-use Rattle.event.proofs.track_event.TrackEvent.read.Reads as read-reads
-use Rattle.rules.proofs.Running.is_valid.Reads as is-valid-reads
-use Rattle.track.proofs.list.EventList.new.Reads as new-reads
 
 abbrev Inv-loop : tie.InvT-loop
-Inv-loop raw at rules list₀ place₀ status₀ count₀ list place status count = Sofar capacity (rulesOf rules) raw at status₀ (list .records) place status count
+Inv-loop raw at rules list₀ place₀ status₀ count₀ list place status count = Filling capacity (rulesOf rules) raw at status₀ (list .records) place status count
 
 abbrev μ-loop : tie.MeasureT-loop
 μ-loop raw at rules list₀ place₀ status₀ count₀ list place status count = length raw - place
 
--- src/read.rt:38:24
 is-valid-requires : tie.Need-is-valid-requires Inv-loop μ-loop
 is-valid-requires c κs = search needs
 
@@ -45,7 +42,7 @@ loop-holds c =
     let a = c .before .before .before .before .args in
     let v = c .before .before .is-valid in
     let l = c .new .result in
-    begun capacity (rulesOf (a .rules)) (a .raw .now) (a .at) (a .running .status) (l .records) (l .count) (c .new .ensures)
+    filling-first capacity (rulesOf (a .rules)) (a .raw .now) (a .at) (a .running .status) (l .records) (l .count) (c .new .ensures)
     (sym (v .ensures) ∙ not-false (v .result) (c .before .if1 .left))
 
 read-requires : tie.Need-read-requires Inv-loop μ-loop
@@ -70,37 +67,38 @@ add-place : tie.Need-add-place Inv-loop μ-loop
 add-place c =
     let e = c .before .before .before in
     let l = e .before .before .before .before .before .loop in
-    let f = onward capacity _ _ _ _ (l .list .records) (l .place) (l .status) (l .count) (l .inv) (e .before .before .read .result) (e .before .before .read .ensures) (e .e .given .0 .0) (e .e .given .1) in
+    let f = onward (l .inv .sofar) (e .before .before .read .result) (e .before .before .read .ensures) (e .e .given .0 .0) (e .e .given .1) in
     omega (arith, f .1, e .before .before .before .before .before .before .before .before .before .before .good .0 .0)
 
 loop-less : tie.Need-loop-less Inv-loop μ-loop
 loop-less c =
     let e = c .before .before .before in
     let l = e .before .before .before .before .before .loop in
-    let f = onward capacity _ _ _ _ (l .list .records) (l .place) (l .status) (l .count) (l .inv) (e .before .before .read .result) (e .before .before .read .ensures) (e .e .given .0 .0) (e .e .given .1) in
+    let f = onward (l .inv .sofar) (e .before .before .read .result) (e .before .before .read .ensures) (e .e .given .0 .0) (e .e .given .1) in
     omega (arith, f .0, f .1)
 
 loop-again : tie.Need-loop-again Inv-loop μ-loop
 loop-again c =
     let e = c .before .before .before in
     let l = e .before .before .before .before .before .loop in
-    again capacity _ _ _ _ (l .list .records) (l .place) (l .status) (l .count) (l .inv) (e .before .before .read .result) (e .before .before .read .ensures) (e .e .given .0 .0) (e .e .given .1) (e .before .before .before .if3 .left)
+    filling-more (l .inv) (e .before .before .read .result) (e .before .before .read .ensures) (e .e .given .0 .0) (e .e .given .1) (e .before .before .before .if3 .left)
 
 returns-2 : tie.Need-returns-2 Inv-loop μ-loop
 returns-2 c =
     let l = c .before .loop in
-    ends capacity _ _ _ _ (l .list .records) (l .place) (l .status) (l .count) (l .inv) (omega (arith, c .if2 .taken))
+    filled (l .inv) ended (ends (l .inv .sofar) (omega (arith, c .if2 .taken)))
 
 returns-3 : tie.Need-returns-3 Inv-loop μ-loop
 returns-3 c =
     let l = c .before .before .loop in
-    fills capacity _ _ _ _ (l .list .records) (l .place) (l .status) (l .count) (l .inv) (c .before .if2 .left) (c .if3 .taken)
+    filled (l .inv) full (fills (l .inv .sofar) (c .before .if2 .left) (c .if3 .taken))
 
 returns-4 : tie.Need-returns-4 Inv-loop μ-loop
 returns-4 c =
     let n = c .before in
     let l = n .before .before .before .before .before .loop in
-    stops capacity _ _ _ _ (l .list .records) (l .place) (l .status) (l .count) (l .inv) (n .before .before .read .result) (n .before .before .read .ensures) (n .n .given .0 .0) (n .before .before .before .before .if2 .left) (n .before .before .before .if3 .left) (n .n .given .1)
+    filled (l .inv) (stopped (numberOf (n .n .given .0 .0 .refusal)))
+    (stops (l .inv .sofar) (n .before .before .read .result) (n .before .before .read .ensures) (n .n .given .0 .0) (n .before .before .before .before .if2 .left) (n .before .before .before .if3 .left) (n .n .given .1))
 
 pub read-spec : {M : Type 1} → statement M
 read-spec =
