@@ -7,6 +7,7 @@ use Rattle.rules.specs.declared.Rules.{Rules}
 use Rattle.track.specs.List.{capacity}
 use Rattle.measure.proofs.Identical.{lengthSaid-injective}
 use Rattle.put.proofs.Identical.{putLeft-injective}
+use Rattle.writing.proofs.Identical.{wroteEvent-injective}
 use Rattle.sheet.proofs.Identical.{rowsLeft-identical}
 use Rattle.sheet_back.specs.SheetList.{sheetList}
 use Rattle.sheet_back.proofs.Identical.{rowsTaken-injective}
@@ -102,6 +103,7 @@ rows =
     record {
       measure-row = λ κs a y z d e p q. lengthSaid-injective (p ∙ sym q);
       put-row = λ κs a y z d e p q. putLeft-injective (p ∙ sym q);
+      write-row = λ κs a y z d e p q. wroteEvent-injective (a .1 .0 .status) (p ∙ sym q);
     }
 
 lent : Lent

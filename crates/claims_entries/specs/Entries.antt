@@ -92,10 +92,11 @@ pub record Sheets : Type 0 where
   pub row-at : OneAnswer 1 sheet-back.«row_at».Kinds.ps sheet-back.«row_at».Kinds.r sheet-back.«row_at».Reads.Learnt
   pub rows-list : OneAnswer 1 sheet-back.«rows_list».Kinds.ps sheet-back.«rows_list».Kinds.r sheet-back.«rows_list».Reads.Learnt
 
--- `rows_out`: a row's event, measured and put
+-- `rows_out`: a row's event, measured, put and written
 pub record Rows : Type 0 where
   pub measure-row : OneAnswer 1 rows-out.«measure_row».Kinds.ps rows-out.«measure_row».Kinds.r rows-out.«measure_row».Reads.Learnt
   pub put-row : OneOutcome 2 rows-out.«put_row».Kinds.ps rows-out.«put_row».Kinds.r rows-out.«put_row».Reads.Learnt (λ κs d e. now (d .1 .1 .1 .1 .0) ≡ now (e .1 .1 .1 .1 .0))
+  pub write-row : OneOutcome 2 rows-out.«write_row».Kinds.ps rows-out.«write_row».Kinds.r rows-out.«write_row».Reads.Learnt (λ κs d e. now (d .1 .1 .1 .1 .0) ≡ now (e .1 .1 .1 .1 .0))
 
 -- `lent`: one event read with the running status handed over
 pub record Lent : Type 0 where

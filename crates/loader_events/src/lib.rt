@@ -3,7 +3,6 @@ ghost use mathlib.Core.Path.{_≡_};
 ghost use Prim.Native.Nat.{ℕ};
 ghost use Rattle.smf.specs.Event.{eventAt};
 ghost use Rattle.measure.specs.Length.{Size};
-ghost use Rattle.writing.specs.Write.{wroteEvent};
 ghost use Rattle.loader.specs.Entry.{flagged, answered, leaves};
 ghost use Rattle.loader_events.specs.Events.{readAnswered, readRow, readUsed, readRunning, rowSize, rowWritten};
 use event::read::ReadEvent;
@@ -12,13 +11,11 @@ use loader::any_rules;
 use loader::rules;
 use measure::length::EventLength;
 use measure::length::event_length;
-use refusal::Refusal;
 use rows::event_row;
 use rows_back::row_event;
-use rows_out::put_row;
+use rows_out::write_row;
 use rules::Running;
 use writing::WroteEvent;
-use writing::write_event;
 
 // The event at a place, from a running status: its row, the bytes used and the running status after it.
 // A refusal leaves the row as it came, uses no byte, and says the running status that it leaves.
@@ -83,27 +80,6 @@ pub extern "C" fn apk_event_length(
     }
 }
 
-// What `put_row` leaves is left as it came, and the event says why.
-fn write_row(
-    row: [u64; 10],
-    running: Running,
-    payload: &[u8],
-    out: &mut [u8],
-    at: usize,
-) -> WroteEvent
-    ensures { λ r. ⌜ wroteEvent (running .status) r (now (out .exit)) ≡ rowWritten (running .status) (now (payload .entry)) row (now (out .entry)) at ⌝ }
-{
-    let rules = any_rules();
-    if !running.is_valid() {
-        return WroteEvent::Refused(Refusal::RunningStatus);
-    }
-    let past = put_row(row, running, rules, payload, out, at);
-    if past.next != at {
-        return WroteEvent::Next(past);
-    }
-    write_event(row_event(row), running, rules, payload, out, at)
-}
-
 // A row's event, put at a place of a lent buffer from a running status: the place after it, and the running status after it.
 // A refusal leaves every byte and the place as they came, and the running status as given.
 #[no_mangle]
@@ -121,7 +97,14 @@ pub extern "C" fn apk_event_write(
     ensures next { λ r. ⌜ now (next .exit) ≡ leaves (λ (n : ℕ). n) (rowWritten running (now (payload .entry)) (now (row .entry)) (now (out .entry)) at .written .answer) (now (next .entry)) ⌝ }
     ensures after { λ r. ⌜ now (after .exit) ≡ rowWritten running (now (payload .entry)) (now (row .entry)) (now (out .entry)) at .running ⌝ }
 {
-    match write_row(*row, Running { status: running }, payload, out, at) {
+    match write_row(
+        *row,
+        Running { status: running },
+        any_rules(),
+        payload,
+        out,
+        at,
+    ) {
         WroteEvent::Refused(refusal) => {
             *after = running;
             refusal.number()

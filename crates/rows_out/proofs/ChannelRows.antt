@@ -7,11 +7,16 @@ use native.Mathlib.Nat.{mod-eq-of-lt}
 use native.Mathlib.Omega.{arith}
 use lib.Dec.{ltb, leb, eqb}
 use borrow.Author.Tests.{lt-ltb, ltb-true, leb-true}
+use Rattle.smf.specs.Answer.{Rules, gives}
 use Rattle.smf.specs.Kind.{Message, midi}
-use Rattle.smf.specs.Event.{event}
+use Rattle.smf.specs.Event.{event, legal}
 use Rattle.smf.proofs.Answer.{both, by-lt}
-use Rattle.shape.specs.Channel.{single, double, channelOf, highBits}
+use Rattle.shape.specs.Channel.{single, double, channelOf, channelFits, highBits}
 use Rattle.shape.specs.declared.channel.Channel.{Channel}
+use Rattle.legal.specs.Legal.{settled}
+use Rattle.legal.proofs.Settled.{midi-settled}
+use Rattle.put.specs.Put.{putEvent}
+use Rattle.put.proofs.Putting.{midiPut, midi-event}
 use Rattle.rows_back.specs.RowEvent.{byteOf, wordOf, cell, areBytes, fieldsFit, rowFits, rowMessage, rowKind, fittingRow, calledRow, rowEvent}
 use Rattle.rows_out.specs.ChannelRow.{dataOf, isWithin, IsChannel}
 use Rattle.rows_out.specs.declared.Data.{Data}
@@ -133,4 +138,19 @@ module _ (r : List ℕ) where
     pub is-channel : (c : ChannelRow) → c .delta .0 ≡ cell r 0 → c .channel .0 ≡ cell r 2
         → c .bytes ≡ record { status = cell r 1 * 16 + cell r 2; pair = held .pair; a = held .a; b = held .b }
         → IsChannel r c
-    is-channel c d ch b = record { message = said; event = rw (d, ch) is-event; bytes = rw ch (b ∙ is-both .1) }
+    unfolding channelFits
+    is-channel c d ch b =
+        record {
+          message = said;
+          event = rw (d, ch) is-event;
+          bytes = rw ch (b ∙ is-both .1);
+          fits = rw (b, d, ch, lt-ltb (cell r 0) (2 ^ 28) (w .delta-below), lt-ltb (cell r 2) 16 (w .channel-below), lt-ltb (held .a) 128 (w .a-below), lt-ltb (held .b) 128 (w .b-below));
+        }
+
+-- what putting the bytes leaves is what putting the row's event leaves, and that is legal
+module _ (rules : Rules) (running : ℕ) (bytes : List ℕ) {row : List ℕ} {c : ChannelRow} (told : IsChannel row c) where
+  pub channel-put : (s : List ℕ) (at : ℕ) → midiPut running (c .delta .0) (c .channel .0) (c .bytes) s at ≡ putEvent rules running bytes (rowEvent row) s at
+  channel-put s at = rw (told .event, told .bytes) (midi-event rules running bytes (c .delta .0) s at (c .channel .0) (told .message))
+
+  pub channel-legal : settled (legal rules bytes (rowEvent row)) ≡ gives tt
+  channel-legal = rw (told .event) (midi-settled rules bytes (c .delta .0) (c .channel .0) (told .message) ∙ rw (← told .bytes, told .fits))

@@ -7,7 +7,7 @@ use lib.Dec.{ltb, leb, eqb}
 use Rattle.smf.specs.Answer.{pick}
 use Rattle.smf.specs.Kind.{Message, midi}
 use Rattle.smf.specs.Event.{event}
-use Rattle.shape.specs.Channel.{channelOf}
+use Rattle.shape.specs.Channel.{channelOf, channelFits}
 use Rattle.rows_back.specs.RowEvent.{rowEvent}
 use Rattle.rows_out.specs.declared.Data.{Data}
 use Rattle.rows_out.specs.declared.ChannelRow.{ChannelRow}
@@ -26,11 +26,12 @@ unfoldable pub isWithin : ℕ → ℕ → ℕ → ℕ → ℕ → Bool
 isWithin n delta channel a b =
     leb 8 n && (ltb n 15 && (ltb delta (2 ^ 28) && (ltb channel 16 && (ltb a 128 && ltb b 128))))
 
--- a row whose event is a channel message, with that message's bytes
+-- a row whose event is a channel message within its widths, with that message's bytes
 pub record IsChannel (row : List ℕ) (c : ChannelRow) : Type 0 where
   pub message : Message
   pub event : rowEvent row ≡ event (c .delta .0) (midi (c .channel .0) message)
   pub bytes : c .bytes ≡ channelOf (c .channel .0) message
+  pub fits : channelFits (c .delta .0) (c .channel .0) (c .bytes) ≡ true
 
 -- of any other row nothing is told
 abbrev pub Told : List ℕ → RowKind → Type 0

@@ -1,10 +1,12 @@
-// A row's event measured and put. A channel message's row has its bytes nearly as they are, so that no event is made
+// A row's event measured, put and written. A channel message's row has its bytes nearly as they are, so that no event is made
 // of it; any other row is made an event first.
 ghost use mathlib.Core.Path.{_≡_};
+ghost use Rattle.smf.specs.Event.{writeEvent};
 ghost use Rattle.rules.specs.Rules.{rulesOf};
 ghost use Rattle.rows_back.specs.RowEvent.{rowEvent};
 ghost use Rattle.measure.specs.Length.{lengthSaid, eventSize};
 ghost use Rattle.put.specs.Put.{putLeft, putEvent};
+ghost use Rattle.writing.specs.Write.{wroteEvent};
 ghost use Rattle.rows_out.specs.ChannelRow.{dataOf, isWithin, Told};
 use int::u4;
 use measure::length::EventLength;
@@ -14,10 +16,13 @@ use number::varlen::u28;
 use put::Past;
 use put::put_bytes;
 use put::put_event;
+use refusal::Refusal;
 use rows_back::row_event;
 use rules::Rules;
 use rules::Running;
 use shape::channel::Channel;
+use writing::WroteEvent;
+use writing::write_event;
 
 // The data bytes of a row: a bend is one number there.
 struct Data {
@@ -126,5 +131,31 @@ pub fn put_row(
     match channel_row(row) {
         RowKind::Channel(c) => put_bytes(c.delta, c.channel, c.bytes, running, out, at),
         RowKind::Other => put_event(row_event(row), running, rules, bytes, out, at),
+    }
+}
+
+// As `write_event` of the row's event. A row that is a channel message's is legal, and only its room is left to ask for.
+pub fn write_row(
+    row: [u64; 10],
+    running: Running,
+    rules: Rules,
+    bytes: &[u8],
+    out: &mut [u8],
+    at: usize,
+) -> WroteEvent
+    ensures { λ r. ⌜ wroteEvent (running .status) r (now (out .exit)) ≡ writeEvent (rulesOf rules) (running .status) (now (bytes .entry)) (rowEvent row) (now (out .entry)) at ⌝ }
+{
+    match channel_row(row) {
+        RowKind::Channel(c) => {
+            if !running.is_valid() {
+                return WroteEvent::Refused(Refusal::RunningStatus);
+            }
+            let past = put_bytes(c.delta, c.channel, c.bytes, running, out, at);
+            if past.next != at {
+                return WroteEvent::Next(past);
+            }
+            WroteEvent::Refused(Refusal::NoRoom)
+        }
+        RowKind::Other => write_event(row_event(row), running, rules, bytes, out, at),
     }
 }

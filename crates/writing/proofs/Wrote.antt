@@ -64,13 +64,6 @@ module _ (rules : Rules) (running : ℕ) (bytes : List ℕ) (e : Event Span) (s 
       unfolding bs
       some = event-some running (mapEvent (bytesOf bytes) e)
 
-      kept-legal : next ≡ at → end ≡ s
-      unfolding put
-      kept-legal z =
-          by-test (leb (at + length bs) (length s))
-          (λ t. let n : next ≡ at + length bs = ap (λ (x : EventPut). x .next) (rw t at is-put) in absurd (omega (arith, some)))
-          (λ t. ap (λ (x : EventPut). x .buffer) (rw t at is-put))
-
       pub wrote-full : next ≡ at → record { written = record { buffer = end; answer = refuses 20 }; running = running } ≡ writeEvent rules running bytes e s at
       unfolding put
       wrote-full z =
@@ -90,7 +83,3 @@ module _ (rules : Rules) (running : ℕ) (bytes : List ℕ) (e : Event Span) (s 
     -- what did not stay was legal
     pub wrote-put : (next ≡ at → ⊥) → record { written = record { buffer = end; answer = gives next }; running = status } ≡ writeEvent rules running bytes e s at
     wrote-put z = by-answer (settled (legal rules bytes e)) (λ x l. wrote-legal l z) (λ n l. absurd (z (stays n l)))
-
-    -- what stayed left every byte
-    pub put-kept : next ≡ at → end ≡ s
-    put-kept z = by-answer (settled (legal rules bytes e)) (λ x l. kept-legal l z) (λ n l. ap (λ (x : EventPut). x .buffer) (is-left n l))

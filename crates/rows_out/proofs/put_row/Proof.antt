@@ -1,8 +1,8 @@
 -- `put_row` meets its contract: a channel message's row by its bytes, any other by its event.
 use mathlib.Core.Path.{_∙_}
 use borrow.Author.Needs.{needs}
-use Rattle.put.proofs.Putting.{midi-event}
 use Rattle.rows_out.specs.ChannelRow.{IsChannel}
+use Rattle.rows_out.proofs.ChannelRows.{channel-put}
 use Rattle.rows_out.proofs.put_row.Statement.{statement}
 use Rattle.rows_out.proofs.put_row.Tie as tie
 
@@ -33,7 +33,7 @@ returns c =
     let row = d .before .before .before .before .before .args .row in
     let known = d .c .given in
     let told : IsChannel row (known .0 .0) = rw (known .1) at (d .before .before .channel-row .ensures) in
-    rw (told .event) (c .before .before .put-bytes .ensures ∙ rw (told .bytes) (midi-event _ _ _ _ _ _ _ _))
+    c .before .before .put-bytes .ensures ∙ channel-put _ _ _ told _ _
 
 same-length-2 : tie.Need-same-length-2
 same-length-2 c = search needs
