@@ -88,13 +88,14 @@ fn port_write_events(rows: &[port::Row], bytes: &[u8], out: &mut [u8]) -> usize 
     at
 }
 
-// ---- lists of 128, continued; both sides clear their records before they read, and the port fills rows
+// ---- lists of 128, continued; neither side clears its records before it reads, and the port fills rows
 
 fn rust_lists(bytes: &[u8]) -> usize {
     let (mut raw, mut running, mut count) = (bytes, None, 0);
     let filler = TrackEvent { delta: 0.into(), kind: TrackEventKind::Meta(MetaMessage::EndOfTrack) };
+    let mut records = [filler; port::CAPACITY];
     while !raw.is_empty() {
-        let (mut records, mut n) = ([filler; port::CAPACITY], 0);
+        let mut n = 0;
         while n < port::CAPACITY && !raw.is_empty() {
             match TrackEvent::read(&mut raw, &mut running) {
                 Ok(event) => records[n] = event,
