@@ -1,6 +1,6 @@
 -- A row of a channel message that may be written, and its bytes: the row has them nearly as they are.
 use mathlib.Core.Path.{_≡_}
-use mathlib.Core.Bool.{Bool, true, false, _&&_}
+use mathlib.Core.Bool.{Bool, true, false, _&&_, _||_}
 use mathlib.Core.List.{List}
 use Prim.Native.Nat.{ℕ, _/_, _%_, _^_}
 use lib.Dec.{ltb, leb, eqb}
@@ -14,11 +14,11 @@ use Rattle.rows_out.specs.declared.ChannelRow.{ChannelRow}
 use Rattle.rows_out.specs.declared.RowKind.{RowKind}
 use Rattle.rows_out.specs.declared.RowKind.the-variants.{Channel, Other}
 
--- the data bytes by a row's number, of its two fields behind the channel: 14 is a bend, which is one number in a row and low seven bits first in bytes; 12 and 13 have one byte
+-- SMF: the data bytes by a row's number, which is its status's upper half, of its two fields behind the channel: a bend, 14, is one number in a row and low seven bits first in bytes; a program, 12, and a channel's aftertouch, 13, have one byte; the others have two
 unfoldable pub dataOf : ℕ → ℕ → ℕ → Data
 dataOf n a b =
     pick (eqb n 14) (record { pair = true; a = a % 128; b = a / 128 })
-    (pick (eqb (n / 2) 6) (record { pair = false; a = a; b = 0 })
+    (pick (eqb n 12 || eqb n 13) (record { pair = false; a = a; b = 0 })
     (record { pair = true; a = a; b = b }))
 
 -- whether a row's number is a channel message's, and its delta, channel and data bytes are within their widths
