@@ -123,12 +123,13 @@ int main(int words, char **word) {
     uint8_t running = 0, out_running = 0, stopped;
     do {
         size_t count = 0;
-        stopped = apk_list_read(bytes, length, place, running, 1, rows, APK_LIST_CELLS, &count, &place, &running);
+        stopped = apk_list_read(bytes, length, place, running, APK_STRICT, rows, APK_LIST_CELLS,
+                                &count, &place, &running);
         for (size_t i = 0; i < count; i++) {
             print_event(events + i, rows + i * APK_CELLS);
         }
         size_t more = 0, illegal = 0;
-        uint8_t refused = apk_list_write(rows, APK_LIST_CELLS, count, bytes, length, out_running,
+        uint8_t refused = apk_list_write(rows, APK_LIST_CELLS, count, bytes, length, out_running, APK_STRICT,
                                          out + written, sizeof out - written, &more, &out_running, &illegal);
         if (refused != APK_ACCEPTED) { /* never so: what was read is legal, and no longer in writing */
             printf("event %zu was not written: refusal %u\n", events + illegal, (unsigned)refused);

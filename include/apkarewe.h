@@ -14,8 +14,9 @@
  * the entry says otherwise.
  *
  * Pointers. A slice is a pointer and a length in elements. A pointer is never NULL, also not where the length is 0.
- * What an entry may write overlaps with nothing else that the same call is lent. `strict` is a flag: 0 lenient,
- * anything else strict. A place is an index into the bytes lent; one past their end is like their end.
+ * What an entry may write overlaps with nothing else that the same call is lent. `rules` is a set of bits,
+ * those of enum apk_rules; the others mean nothing yet and are not looked at: pass them as 0. A place is an index into
+ * the bytes lent; one past their end is like their end.
  *
  * The running status is the status byte that the next event may leave out: 0x80 to 0xEF, or 0 for none. A track begins
  * with none.
@@ -37,6 +38,11 @@
 #ifdef __cplusplus
 extern "C" {
 #endif
+
+/* The rules of a call: a set of these bits, 0 for lenient. Writers are given them too; no rule touches those yet. */
+enum apk_rules {
+    APK_STRICT = 1 /* reading refuses what it else takes as it stands: 2, 3, 11, 12 */
+};
 
 /* What entries answer: document 01's table of refusals, and the two that are none. */
 enum apk_answer {
@@ -133,7 +139,7 @@ enum apk_kind {
  * the cells are too few for the events read, and only then everything is as it came.
  * Payloads are start and length in these bytes, which are not copied. An empty slice is an empty list.
  * Definition: listAt of smf, laid out by sheetOf of sheet. */
-uint8_t apk_list_read(const uint8_t *bytes, size_t bytes_len, size_t at, uint8_t running, uint8_t strict,
+uint8_t apk_list_read(const uint8_t *bytes, size_t bytes_len, size_t at, uint8_t running, uint8_t rules,
                       uint64_t *rows, size_t cells, size_t *count, size_t *place, uint8_t *after);
 
 /* How many bytes so many rows have when written from a running status.
@@ -146,14 +152,15 @@ uint8_t apk_list_read(const uint8_t *bytes, size_t bytes_len, size_t at, uint8_t
  * 23. A row that is no event's (no such kind, or a field that no event can hold) is refused by 18.
  * Definition: sheetSize of loader_lists, sizeList of smf. */
 uint8_t apk_list_length(const uint64_t *rows, size_t cells, size_t count, const uint8_t *payload, size_t payload_len,
-                        uint8_t running, size_t *length, uint8_t *after, size_t *index);
+                        uint8_t running, uint8_t rules, size_t *length, uint8_t *after, size_t *index);
 
 /* Writes so many rows from out[0] on, in the shortest form, as apk_list_length measures them.
  *   out, out_len  where the bytes go; nothing behind them is changed, and after a refusal nothing at all
  * The rest, and the refusals, as there; last of all 20 where out is too short. An empty list fits in no bytes.
  * Definition: sheetWritten of loader_lists, writeList of smf. */
 uint8_t apk_list_write(const uint64_t *rows, size_t cells, size_t count, const uint8_t *payload, size_t payload_len,
-                       uint8_t running, uint8_t *out, size_t out_len, size_t *length, uint8_t *after, size_t *index);
+                       uint8_t running, uint8_t rules, uint8_t *out, size_t out_len, size_t *length, uint8_t *after,
+                       size_t *index);
 
 /* Whether two lists are the same, each over the bytes that its payloads stand in: counts, deltas, kinds, fields and
  * payload bytes agree; where payloads start does not count. Answers 1 the same, 0 not; 21 where a count is above 128,
@@ -170,19 +177,19 @@ uint8_t apk_list_same(const uint64_t *rows_a, size_t cells_a, size_t count_a,
  * Refuses 1 to 14; then the row is as it came, *used is 0, and *after the running status that the refused event leaves:
  * as given for 1, 4 to 7, and for 2 and 3 in a delta; its own status for 8 and 9; none for the others.
  * Definition: eventAt of smf, laid out by eventRow of rows. */
-uint8_t apk_event_read(const uint8_t *bytes, size_t bytes_len, size_t at, uint8_t running, uint8_t strict,
+uint8_t apk_event_read(const uint8_t *bytes, size_t bytes_len, size_t at, uint8_t running, uint8_t rules,
                        uint64_t row[10], size_t *used, uint8_t *after);
 
 /* How many bytes a row's event has when written from a running status, and the running status after it.
  * Refuses 1, 18, 19, 22, 23; then both are as they came. Definition: rowSize of loader_events. */
 uint8_t apk_event_length(const uint64_t row[10], const uint8_t *payload, size_t payload_len, uint8_t running,
-                         size_t *length, uint8_t *after);
+                         uint8_t rules, size_t *length, uint8_t *after);
 
 /* Writes a row's event at a place of out, in the shortest form: *next is the place after it, *after the running status.
  * Refuses 1, 18, 19, 22, 23, 20; then every byte and *next are as they came, and *after is the running status as given.
  * Definition: writeEvent of smf. */
 uint8_t apk_event_write(const uint64_t row[10], const uint8_t *payload, size_t payload_len, uint8_t running,
-                        uint8_t *out, size_t out_len, size_t at, size_t *next, uint8_t *after);
+                        uint8_t rules, uint8_t *out, size_t out_len, size_t at, size_t *next, uint8_t *after);
 
 /* Whether two events are the same, by the rule of apk_list_same. Answers 1 the same, 0 not. Definition: Same of smf. */
 uint8_t apk_event_same(const uint64_t row_a[10], const uint8_t *bytes_a, size_t bytes_a_len,
@@ -192,7 +199,7 @@ uint8_t apk_event_same(const uint64_t row_a[10], const uint8_t *bytes_a, size_t 
 
 /* Reads the variable-length number at a place: its value, and the place after it. Refuses 2, 3.
  * Definition: numberAt. */
-uint8_t apk_number_read(const uint8_t *bytes, size_t bytes_len, size_t at, uint8_t strict,
+uint8_t apk_number_read(const uint8_t *bytes, size_t bytes_len, size_t at, uint8_t rules,
                         uint32_t *value, size_t *next);
 
 /* How many bytes the shortest form of a number has, 1 to 4; 4 above 268,435,455. Refuses nothing.
@@ -205,7 +212,7 @@ uint8_t apk_number_write(uint32_t value, uint8_t *out, size_t out_len, size_t at
 
 /* Reads the payload at a place, a number and so many bytes: where these start, and how many. The place after them is
  * the sum. Refuses 2, 3, 11. Definition: payloadAt. */
-uint8_t apk_payload_read(const uint8_t *bytes, size_t bytes_len, size_t at, uint8_t strict,
+uint8_t apk_payload_read(const uint8_t *bytes, size_t bytes_len, size_t at, uint8_t rules,
                          size_t *start, size_t *length);
 
 /* Writes a range of the payload bytes, with its number in front, at a place of out: *next is the place after it.
@@ -247,24 +254,26 @@ uint8_t apk_fps_from_int(uint8_t raw, uint8_t *rate);
 uint8_t apk_fps_as_f32(uint8_t rate, float *frames);
 
 /* Whether six numbers are a time: 0 if so. Refuses 16, 13. Definition: toTime. */
-uint8_t apk_smpte_new(uint8_t hour, uint8_t minute, uint8_t second, uint8_t frame, uint8_t subframe, uint8_t rate);
+uint8_t apk_smpte_new(uint8_t hour, uint8_t minute, uint8_t second, uint8_t frame, uint8_t subframe, uint8_t rate,
+                      uint8_t rules);
 
 /* The time of a message's five bytes, the first of which holds hour and rate code: the six numbers. Refuses 13.
  * Definition: timeOf. */
-uint8_t apk_smpte_read(uint8_t first, uint8_t minute, uint8_t second, uint8_t frame, uint8_t subframe, uint8_t time[6]);
+uint8_t apk_smpte_read(uint8_t first, uint8_t minute, uint8_t second, uint8_t frame, uint8_t subframe,
+                       uint8_t rules, uint8_t time[6]);
 
 /* The five bytes of a time. Refuses 16, 18. Definition: encodeTime. */
 uint8_t apk_smpte_encode(uint8_t hour, uint8_t minute, uint8_t second, uint8_t frame, uint8_t subframe, uint8_t rate,
-                         uint8_t bytes[5]);
+                         uint8_t rules, uint8_t bytes[5]);
 
 /* A time's seconds, with frames and subframes as their fraction, without hours and minutes. Refuses 16, 13.
  * Definition: secondsOf, operation for operation. */
 uint8_t apk_smpte_second_f32(uint8_t hour, uint8_t minute, uint8_t second, uint8_t frame, uint8_t subframe,
-                             uint8_t rate, float *seconds);
+                             uint8_t rate, uint8_t rules, float *seconds);
 
 /* A time's place in the day, in subframes. Refuses 16, 13. Definition: position. */
 uint8_t apk_smpte_position(uint8_t hour, uint8_t minute, uint8_t second, uint8_t frame, uint8_t subframe, uint8_t rate,
-                           uint32_t *subframes);
+                           uint8_t rules, uint32_t *subframes);
 
 /* Bends ---------------------------------------------------------------------------------------------------------- */
 /* A raw bend is 0 to 16,383, no bend at 8,192; signed, it is -8,192 to 8,191; as a float, that by 8,192, exactly. */

@@ -2,23 +2,26 @@
 
 extern "C" {
     fn apk_event_read(
-        bytes: *const u8, length: usize, at: usize, running: u8, strict: u8,
+        bytes: *const u8, length: usize, at: usize, running: u8, rules: u8,
         row: *mut [u64; 10], used: *mut usize, after: *mut u8,
     ) -> u32;
     fn apk_event_write(
-        row: *const [u64; 10], payload: *const u8, payload_length: usize, running: u8,
+        row: *const [u64; 10], payload: *const u8, payload_length: usize, running: u8, rules: u8,
         out: *mut u8, out_length: usize, at: usize, next: *mut usize, after: *mut u8,
     ) -> u32;
     fn apk_list_read(
-        bytes: *const u8, length: usize, at: usize, running: u8, strict: u8,
+        bytes: *const u8, length: usize, at: usize, running: u8, rules: u8,
         rows: *mut u64, cells: usize, count: *mut usize, place: *mut usize, after: *mut u8,
     ) -> u32;
     fn apk_list_write(
-        rows: *const u64, cells: usize, count: usize, payload: *const u8, payload_length: usize, running: u8,
+        rows: *const u64, cells: usize, count: usize, payload: *const u8, payload_length: usize,
+        running: u8, rules: u8,
         out: *mut u8, out_length: usize, length: *mut usize, after: *mut u8, index: *mut usize,
     ) -> u32;
 }
 
+/// The rules of a call, a set of bits: lenient.
+const RULES: u8 = 0;
 /// As many events as a list holds.
 pub const CAPACITY: usize = 128;
 /// The answer of a list that is full.
@@ -30,7 +33,7 @@ pub type Row = [u64; 10];
 #[inline(always)]
 pub fn event_read(bytes: &[u8], at: usize, running: u8, row: &mut Row) -> (u8, usize, u8) {
     let (mut used, mut after) = (0, 0);
-    let answer = unsafe { apk_event_read(bytes.as_ptr(), bytes.len(), at, running, 0, row, &mut used, &mut after) };
+    let answer = unsafe { apk_event_read(bytes.as_ptr(), bytes.len(), at, running, RULES, row, &mut used, &mut after) };
     (answer as u8, used, after)
 }
 
@@ -38,7 +41,9 @@ pub fn event_read(bytes: &[u8], at: usize, running: u8, row: &mut Row) -> (u8, u
 pub fn event_write(row: &Row, payload: &[u8], running: u8, out: &mut [u8], at: usize) -> (u8, usize, u8) {
     let (mut next, mut after) = (0, 0);
     let answer = unsafe {
-        apk_event_write(row, payload.as_ptr(), payload.len(), running, out.as_mut_ptr(), out.len(), at, &mut next, &mut after)
+        apk_event_write(
+            row, payload.as_ptr(), payload.len(), running, RULES, out.as_mut_ptr(), out.len(), at, &mut next, &mut after,
+        )
     };
     (answer as u8, next, after)
 }
@@ -49,7 +54,7 @@ pub fn list_read(bytes: &[u8], at: usize, running: u8, rows: &mut [Row; CAPACITY
     let (mut count, mut place, mut after) = (0, 0, 0);
     let answer = unsafe {
         let cells = rows.as_mut_ptr() as *mut u64;
-        apk_list_read(bytes.as_ptr(), bytes.len(), at, running, 0, cells, 10 * CAPACITY, &mut count, &mut place, &mut after)
+        apk_list_read(bytes.as_ptr(), bytes.len(), at, running, RULES, cells, 10 * CAPACITY, &mut count, &mut place, &mut after)
     };
     (answer as u8, count, place, after)
 }
@@ -61,7 +66,7 @@ pub fn list_write(rows: &[Row], payload: &[u8], running: u8, out: &mut [u8]) -> 
     let answer = unsafe {
         let cells = rows.as_ptr() as *const u64;
         apk_list_write(
-            cells, 10 * rows.len(), rows.len(), payload.as_ptr(), payload.len(), running,
+            cells, 10 * rows.len(), rows.len(), payload.as_ptr(), payload.len(), running, RULES,
             out.as_mut_ptr(), out.len(), &mut length, &mut after, &mut index,
         )
     };

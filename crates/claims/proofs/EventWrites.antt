@@ -43,7 +43,7 @@ module _ (rules : Rules) (running : ℕ) (bytes : List ℕ) (e : Event Span) (bu
   -- an accepted write: the running status is one, the event legal, and its own bytes stand at the place
   pub record Wrote (w : EventWritten) (next : ℕ) : Type 0 where
     pub valid : isRunning running ≡ true
-    pub legal : isLegal (mapEvent (bytesOf bytes) e) ≡ true
+    pub legal : isLegal rules (mapEvent (bytesOf bytes) e) ≡ true
     pub size : next ≡ at + length (encodeEvent running (mapEvent (bytesOf bytes) e))
     pub room : at + length (encodeEvent running (mapEvent (bytesOf bytes) e)) ≤ length buffer
     pub own : w .written .buffer ≡ over (encodeEvent running (mapEvent (bytesOf bytes) e)) buffer at

@@ -11,6 +11,7 @@ use Rattle.smf.specs.Place.{Span}
 use Rattle.smf.specs.Event.{Event, mapEvent, bytesOf}
 use Rattle.smf.specs.Lists.{readList, RecordsLegal, listed, encodeList, ListWritten, wrote, writeList}
 use Rattle.smf.proofs.Write.{length-over}
+use Rattle.smf.proofs.Legal.{all-strictly}
 use Rattle.smf.proofs.Lists.{ReadsBack, list-reads-back, list-read, list-valid}
 use Rattle.smf.proofs.Checks.{all-legal}
 use Rattle.smf.proofs.ListWrites.{write-wrote, write-refused, write-fits, front-own, front-beyond}
@@ -27,7 +28,7 @@ module _ (rules : Rules) (most running : ℕ) (bytes : List ℕ) (records : List
   counted few = rw (length-map (take count records) (mapEvent (bytesOf bytes)), length-take) (omega arith)
 
   back : isRunning running ≡ true → count ≤ most → RecordsLegal rules bytes (take count records) → ReadsBack (readList (strictOf rules) most running own) running events
-  back is few legal = list-reads-back (strictOf rules) most running events is (all-legal rules bytes (take count records) legal) (counted few)
+  back is few legal = list-reads-back (strictOf rules) most running events is (all-strictly rules events (all-legal rules bytes (take count records) legal)) (counted few)
 
   -- bytes that read strictly as the list are no fewer than its own, and they do so from a running status
   fewer : (s : List ℕ) → ReadsStrictly rules most running bytes records count s → length own ≤ length s

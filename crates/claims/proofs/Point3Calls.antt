@@ -1,5 +1,6 @@
 -- Point 3, proved of whatever the promises permit: what they say is the definitions', of which it holds.
 use mathlib.Core.Path.{_≡_, refl, sym, ap, _∙_, subst}
+use mathlib.Core.Bool.{true}
 use mathlib.Core.List.{List, _++_, map}
 use Prim.Native.Nat.{ℕ, _+_, _-_}
 use native.Mathlib.Omega.{arith}
@@ -7,9 +8,10 @@ use lib.ListN.{length, take, replicate, length-map}
 use lib.Seq.{take-append-seam, length-take-le}
 use Rattle.smf.specs.Answer.{Rules, strictOf, gives}
 use Rattle.smf.specs.Place.{Span}
-use Rattle.smf.specs.Event.{Event, mapEvent, bytesOf, Same, encodeEvent, EventWritten, writeEvent}
+use Rattle.smf.specs.Event.{Event, mapEvent, bytesOf, Same, encodeEvent, EventWritten, writeEvent, isLegal}
 use Rattle.smf.specs.Lists.{listed, ListAt, listAt, filler, holding, heldAs, ListHeld, wrote, ListWritten, writeList, counted}
 use Rattle.smf.proofs.Event as smf
+use Rattle.smf.proofs.Legal.{legal-strictly}
 use Rattle.smf.proofs.Lists.{list-ended}
 use Rattle.smf.proofs.ListPlaces.{list-reached}
 use Rattle.smf.proofs.ListWrites.{write-wrote, front-own}
@@ -84,7 +86,7 @@ module _ (rules : Rules) (running : ℕ) (bytes : List ℕ) (records : List (Eve
 
 -- two events that were written at the front of their buffers
 module _ (running : ℕ) (rules rules′ : Rules) (bytes bytes′ : List ℕ) (e e′ : Event Span) (out out′ : List ℕ) (n n′ : ℕ)
-    (h : writeEvent rules running bytes e out 0 .written .answer ≡ gives n) (h′ : writeEvent rules′ running bytes′ e′ out′ 0 .written .answer ≡ gives n′) where
+    (h : writeEvent rules running bytes e out 0 .written .answer ≡ gives n) (h′ : writeEvent rules′ running bytes′ e′ out′ 0 .written .answer ≡ gives n′) (alike : strictOf rules′ ≡ strictOf rules) where
   front : (rules : Rules) (bytes : List ℕ) (e : Event Span) (out : List ℕ) (n : ℕ) → writeEvent rules running bytes e out 0 .written .answer ≡ gives n
       → take n (writeEvent rules running bytes e out 0 .written .buffer) ≡ encodeEvent running (mapEvent (bytesOf bytes) e)
   front rules bytes e out n h =
@@ -98,7 +100,8 @@ module _ (running : ℕ) (rules rules′ : Rules) (bytes bytes′ : List ℕ) (e
   never-begins more q =
       let a = event-wrote rules running bytes e out 0 n h in
       let a′ = event-wrote rules′ running bytes′ e′ out′ 0 n′ h′ in
-      smf.prefix-free rules running (mapEvent (bytesOf bytes) e) (mapEvent (bytesOf bytes′) e′) more (a .valid) (a .legal) (a′ .legal)
+      smf.prefix-free (strictOf rules) running (mapEvent (bytesOf bytes) e) (mapEvent (bytesOf bytes′) e′) more (a .valid) (legal-strictly rules _ ∙ a .legal)
+      (subst (λ (r : Rules). isLegal r (mapEvent (bytesOf bytes′) e′) ≡ true) alike (legal-strictly rules′ _ ∙ a′ .legal))
       (sym (front rules bytes e out n h) ∙ q ∙ ap (λ (l : List ℕ). l ++ more) (front rules′ bytes′ e′ out′ n′ h′))
 
 back : (rules rules′ : Rules) (running : ℕ) (bytes : List ℕ) (records : List (Event Span)) (count : ℕ) (out : List ℕ) (n at : ℕ) (w : ListWritten) (raw : List ℕ) (held : ListHeld)
@@ -109,30 +112,30 @@ back rules rules′ running bytes records count out n at w raw held told e full 
     rw (told′, q, z, strict, told) (read-back rules running bytes records count out n (rw told at e) full)
 
 begins : (running running′ : ℕ) (rules rules′ : Rules) (bytes bytes′ : List ℕ) (e e′ : Event Span) (out out′ : List ℕ) (at at′ n n′ : ℕ) (w w′ : EventWritten)
-    → running′ ≡ running → w ≡ writeEvent rules running bytes e out at → at ≡ 0 → w .written .answer ≡ gives n
+    → running′ ≡ running → strictOf rules′ ≡ strictOf rules → w ≡ writeEvent rules running bytes e out at → at ≡ 0 → w .written .answer ≡ gives n
     → w′ ≡ writeEvent rules′ running′ bytes′ e′ out′ at′ → at′ ≡ 0 → w′ .written .answer ≡ gives n′
     → (more : List ℕ) → take n (w .written .buffer) ≡ take n′ (w′ .written .buffer) ++ more → Same bytes e bytes′ e′
-begins running running′ rules rules′ bytes bytes′ e e′ out out′ at at′ n n′ w w′ same told z h told′ z′ h′ more q =
+begins running running′ rules rules′ bytes bytes′ e e′ out out′ at at′ n n′ w w′ same alike told z h told′ z′ h′ more q =
     let h₀ : writeEvent rules running bytes e out 0 .written .answer ≡ gives n = rw (told, z) at h in
     let h₁ : writeEvent rules′ running bytes′ e′ out′ 0 .written .answer ≡ gives n′ = rw (told′, z′, same) at h′ in
-    never-begins running rules rules′ bytes bytes′ e e′ out out′ n n′ h₀ h₁ more (rw (told, z, told′, z′, same) at q)
+    never-begins running rules rules′ bytes bytes′ e e′ out out′ n n′ h₀ h₁ alike more (rw (told, z, told′, z′, same) at q)
 
 again : (list : EventList) (running : Running) (rules : number.Rules) (bytes out : List ℕ) (w : ListWritten)
     → w ≡ writeList (rulesOf rules) 128 (running .status) bytes (map eventOf (list .records)) (list .count) out
-    → (n : ℕ) → w .answer ≡ wrote n → length (list .records) ≡ 128 → EventListRead (ReadAgain list running bytes w n)
+    → (n : ℕ) → w .answer ≡ wrote n → length (list .records) ≡ 128 → EventListRead (ReadAgain list running rules bytes w n)
 again list running rules bytes out w told n e full =
-    calls.read-list (ReadAgain list running bytes w n) (λ raw at running′ rules′ r told′ q z same strict.
+    calls.read-list (ReadAgain list running rules bytes w n) (λ raw at running′ rules′ r told′ q z same strict.
     let full′ : length (map eventOf (list .records)) ≡ 128 = length-map (list .records) eventOf ∙ full in
     back (rulesOf rules) (rulesOf rules′) (running .status) bytes (map eventOf (list .records)) (list .count) out n at w raw (listRead r)
-    told e full′ (rw same at told′) q z (rw strict))
+    told e full′ (rw same at told′) q z strict)
 
 never : (e : TrackEvent) (running : Running) (rules : number.Rules) (bytes out : List ℕ) (at : ℕ) (r : WroteEvent) (end : List ℕ)
     → wroteEvent (running .status) r end ≡ writeEvent (rulesOf rules) (running .status) bytes (eventOf e) out at
-    → (n : ℕ) → at ≡ 0 → wroteEvent (running .status) r end .written .answer ≡ gives n → WriteEvent (NeverBegins e running bytes (take n end))
+    → (n : ℕ) → at ≡ 0 → wroteEvent (running .status) r end .written .answer ≡ gives n → WriteEvent (NeverBegins e running rules bytes (take n end))
 never e running rules bytes out at r end told n z h =
-    calls.write-event (NeverBegins e running bytes (take n end)) (λ e′ running′ rules′ bytes′ out′ at′ r′ end′ told′ n′ more z′ same h′ q.
+    calls.write-event (NeverBegins e running rules bytes (take n end)) (λ e′ running′ rules′ bytes′ out′ at′ r′ end′ told′ n′ more z′ same alike h′ q.
     begins (running .status) (running′ .status) (rulesOf rules) (rulesOf rules′) bytes bytes′ (eventOf e) (eventOf e′) out out′ at at′ n n′
-    (wroteEvent (running .status) r end) (wroteEvent (running′ .status) r′ end′) (ap (λ (x : Running). x .status) same) told z h told′ z′ h′ more
+    (wroteEvent (running .status) r end) (wroteEvent (running′ .status) r′ end′) (ap (λ (x : Running). x .status) same) alike told z h told′ z′ h′ more
     (rw (event-end (running .status) r end, event-end (running′ .status) r′ end′) q))
 
 pub point-3 : Point3

@@ -129,9 +129,9 @@ module _ (rules : Rules) where
   narrow-by limit byte =
       pick-both (By (ofName strict)) (ltb byte limit) tt (pick-test (By (ofName strict)) strict (λ t. rw t) (λ t. tt))
 
-  named-time-by : (a b c d e : ℕ) → By (ofName strict) (timeOf a b c d e)
+  named-time-by : (a b c d e : ℕ) → By (ofName strict) (timeOf rules a b c d e)
   unfolding timeOf toTime
-  named-time-by a b c d e = pick-both (By (ofName strict)) (isTime _) tt (named-13 strict)
+  named-time-by a b c d e = pick-both (By (ofName strict)) (isTime rules _) tt (named-13 strict)
 
   pub called-meta-by : (t : ℕ) (p : List ℕ) → By (ofName strict) (calledMeta rules t p)
   unfolding calledMeta
@@ -143,7 +143,7 @@ module _ (rules : Rules) where
       (pick-both P (eqb t 0x21) (pick-both P (leb 1 (length p)) (then-by _ (narrow rules 128 _) _ (narrow-by 128 _) (λ c. tt)) tt)
       (pick-both P (eqb t 0x2F) tt
       (pick-both P (eqb t 0x51) (pick-both P (leb 3 (length p)) tt tt)
-      (pick-both P (eqb t 0x54) (pick-both P (leb 5 (length p)) (then-by _ (timeOf _ _ _ _ _) _ (named-time-by _ _ _ _ _) (λ c. tt)) tt)
+      (pick-both P (eqb t 0x54) (pick-both P (leb 5 (length p)) (then-by _ (timeOf rules _ _ _ _ _) _ (named-time-by _ _ _ _ _) (λ c. tt)) tt)
       (pick-both P (eqb t 0x58) (pick-both P (leb 4 (length p)) tt tt)
       (pick-both P (eqb t 0x59) (pick-both P (leb 2 (length p)) tt (named-14 strict))
       (pick-both P (eqb t 0x7F) tt tt)))))))))
@@ -208,25 +208,25 @@ pub timing-bytes-by : (t : Timing) → By (18 ∷ []) (encodeTiming t)
 unfolding encodeTiming
 timing-bytes-by t = pick-both (By (18 ∷ [])) (isTiming t) tt refl
 
-pub time-by : (t : Time) → By (13 ∷ []) (toTime t)
+pub time-by : (rules : Rules) (t : Time) → By (13 ∷ []) (toTime rules t)
 unfolding toTime
-time-by t = pick-both (By (13 ∷ [])) (isTime t) tt refl
+time-by rules t = pick-both (By (13 ∷ [])) (isTime rules t) tt refl
 
-pub time-of-by : (a b c d e : ℕ) → By (13 ∷ []) (timeOf a b c d e)
+pub time-of-by : (rules : Rules) (a b c d e : ℕ) → By (13 ∷ []) (timeOf rules a b c d e)
 unfolding timeOf
-time-of-by a b c d e = time-by _
+time-of-by rules a b c d e = time-by rules _
 
-pub time-bytes-by : (t : Time) → By (18 ∷ []) (encodeTime t)
+pub time-bytes-by : (rules : Rules) (t : Time) → By (18 ∷ []) (encodeTime rules t)
 unfolding encodeTime
-time-bytes-by t = pick-both (By (18 ∷ [])) (isTime t) tt refl
+time-bytes-by rules t = pick-both (By (18 ∷ [])) (isTime rules t) tt refl
 
-pub seconds-by : (t : Time) → By (13 ∷ []) (secondsOf t)
+pub seconds-by : (rules : Rules) (t : Time) → By (13 ∷ []) (secondsOf rules t)
 unfolding secondsOf
-seconds-by t = pick-both (By (13 ∷ [])) (isTime t) tt refl
+seconds-by rules t = pick-both (By (13 ∷ [])) (isTime rules t) tt refl
 
-pub position-by : (t : Time) → By (13 ∷ []) (position t)
+pub position-by : (rules : Rules) (t : Time) → By (13 ∷ []) (position rules t)
 unfolding position
-position-by t = pick-both (By (13 ∷ [])) (isTime t) tt refl
+position-by rules t = pick-both (By (13 ∷ [])) (isTime rules t) tt refl
 
 pub bend-by : (raw : ℕ) → By (18 ∷ []) (askBend raw)
 unfolding askBend
@@ -260,10 +260,10 @@ module _ (rules : Rules) (bytes : List ℕ) where
   pub legal-by : (e : Event Span) → By ofLegality (legal rules bytes e)
   unfolding legal
   legal-by e =
-      pick-both (By ofLegality) (ltb (e .delta) (2 ^ 28) && kindFits (e .kind))
+      pick-both (By ofLegality) (ltb (e .delta) (2 ^ 28) && kindFits rules (e .kind))
       (pick-both (By ofLegality) (inside bytes (kindLoad noSpan (e .kind)))
       (pick-both (By ofLegality) (ltb (spanLength (kindLoad noSpan (e .kind))) (2 ^ 28))
-      (pick-both (By ofLegality) (kindMisnamed spanLength (e .kind)) refl tt)
+      (pick-both (By ofLegality) (kindMisnamed rules spanLength (e .kind)) refl tt)
       refl)
       refl)
       refl
@@ -289,23 +289,23 @@ module _ (rules : Rules) (bytes : List ℕ) where
 pub bytes-length-by : (running delta channel : ℕ) (c : Channel) → By (18 ∷ []) (pick (channelFits delta channel c) (gives (rawSize running delta (channelRaw c))) (refuses 18))
 bytes-length-by running delta channel c = pick-both (By (18 ∷ [])) (channelFits delta channel c) tt refl
 
-module _ (bytes : List ℕ) where
+module _ (rules : Rules) (bytes : List ℕ) where
   load-by : (span : Span) → By ofLegality (loadAllowed bytes span)
   unfolding loadAllowed
   load-by span = pick-both (By ofLegality) (inside bytes span) (pick-both (By ofLegality) (ltb (span .length) (2 ^ 28)) tt refl) refl
 
-  form-by : (form : Form) → By ofLegality (formAllowed bytes form)
+  form-by : (form : Form) → By ofLegality (formAllowed rules bytes form)
   unfolding formAllowed unknownAllowed
   form-by AboveWidth = refl
   form-by (System status load) = load-by (spanOf load)
   form-by (Typed t load) = load-by (spanOf load)
   form-by (Unknown t load) =
-      then-by ofLegality (loadAllowed bytes (spanOf load)) _ (load-by (spanOf load)) (λ x. pick-both (By ofLegality) (isNamed t (load .length)) refl tt)
+      then-by ofLegality (loadAllowed bytes (spanOf load)) _ (load-by (spanOf load)) (λ x. pick-both (By ofLegality) (isNamed rules t (load .length)) refl tt)
   form-by (Fixed t own) = pick-both (By ofLegality) (leb (own .n) 5) tt refl
 
-  pub allowed-by : (delta : ℕ) (form : Form) → By ofLegality (eventAllowed bytes delta form)
+  pub allowed-by : (delta : ℕ) (form : Form) → By ofLegality (eventAllowed rules bytes delta form)
   unfolding eventAllowed
   allowed-by delta form = pick-both (By ofLegality) (ltb delta (2 ^ 28)) (form-by form) refl
 
-  pub allowed-then-by : {B : Type 0} (delta : ℕ) (form : Form) (f : Unit {0} → B) → By ofLegality (andThen (eventAllowed bytes delta form) (λ x. gives (f x)))
-  allowed-then-by delta form f = then-by ofLegality (eventAllowed bytes delta form) (λ x. gives (f x)) (allowed-by delta form) (λ x. tt)
+  pub allowed-then-by : {B : Type 0} (delta : ℕ) (form : Form) (f : Unit {0} → B) → By ofLegality (andThen (eventAllowed rules bytes delta form) (λ x. gives (f x)))
+  allowed-then-by delta form f = then-by ofLegality (eventAllowed rules bytes delta form) (λ x. gives (f x)) (allowed-by delta form) (λ x. tt)

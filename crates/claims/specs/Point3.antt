@@ -66,18 +66,18 @@ pub record ReadBack (raw : List ℕ) (r : ListHeld) (n after : ℕ) (bytes : Lis
   pub status : r .running ≡ after
   pub same : SameList raw (r .list .records) (r .list .count) bytes records count
 
--- a list that `write_list` wrote: what `EventList::read` reads of its bytes, strictly and from the same running status
-module _ (list : EventList) (running : Running) (bytes : List ℕ) (w : ListWritten) (n : ℕ) where
+-- a list that `write_list` wrote: what `EventList::read` reads of its bytes, by the same rules, strictly, and from the same running status
+module _ (list : EventList) (running : Running) (rules : number.Rules) (bytes : List ℕ) (w : ListWritten) (n : ℕ) where
   abbrev pub ReadAgain : List ℕ → ℕ → Running → number.Rules → ReadList → Type 0
-  ReadAgain raw at running′ rules r =
-      raw ≡ take n (w .buffer) → at ≡ 0 → running′ ≡ running → rules .strict ≡ true
+  ReadAgain raw at running′ rules′ r =
+      raw ≡ take n (w .buffer) → at ≡ 0 → running′ ≡ running → rulesOf rules′ ≡ strictOf (rulesOf rules)
       → ReadBack raw (listRead r) n (w .running) bytes (map eventOf (list .records)) (list .count)
 
--- an event whose bytes were written at the front of a buffer, and another whose bytes the first begin with
-module _ (e : TrackEvent) (running : Running) (bytes own : List ℕ) where
+-- an event whose bytes were written at the front of a buffer, and another whose bytes the first begin with, by the same rules, strict or not
+module _ (e : TrackEvent) (running : Running) (rules : number.Rules) (bytes own : List ℕ) where
   abbrev pub NeverBegins : TrackEvent → Running → number.Rules → List ℕ → List ℕ → ℕ → WroteEvent → List ℕ → Type 0
-  NeverBegins e′ running′ rules bytes′ out at r end =
-      (n : ℕ) (more : List ℕ) → at ≡ 0 → running′ ≡ running → wroteEvent (running′ .status) r end .written .answer ≡ gives n
+  NeverBegins e′ running′ rules′ bytes′ out at r end =
+      (n : ℕ) (more : List ℕ) → at ≡ 0 → running′ ≡ running → strictOf (rulesOf rules′) ≡ strictOf (rulesOf rules) → wroteEvent (running′ .status) r end .written .answer ≡ gives n
       → own ≡ take n end ++ more → Same bytes (eventOf e) bytes′ (eventOf e′)
 
 pub record Point3 : Type 0 where
@@ -88,9 +88,9 @@ pub record Point3 : Type 0 where
   -- every list has 128 records
   pub reads-back : WriteList (λ list running rules bytes out r end.
       (n : ℕ) → wroteList (running .status) r end .answer ≡ wrote n → length (list .records) ≡ 128
-      → EventListRead (ReadAgain list running bytes (wroteList (running .status) r end) n))
-  -- `write_event`, twice from one running status, each time at the front of a buffer: where the bytes of one event begin with those of the
-  -- other, the events are the same, whatever bytes their payloads are in
+      → EventListRead (ReadAgain list running rules bytes (wroteList (running .status) r end) n))
+  -- `write_event`, twice from one running status and by the same rules, each time at the front of a buffer: where the bytes of one event
+  -- begin with those of the other, the events are the same, whatever bytes their payloads are in
   pub prefix-free : WriteEvent (λ e running rules bytes out at r end.
       (n : ℕ) → at ≡ 0 → wroteEvent (running .status) r end .written .answer ≡ gives n
-      → WriteEvent (NeverBegins e running bytes (take n end)))
+      → WriteEvent (NeverBegins e running rules bytes (take n end)))

@@ -22,7 +22,6 @@ numbers : Numbers
 numbers =
     record {
       rules = λ κs a y z d e p q. rulesOf-injective (p ∙ sym q);
-      any-rules = λ κs a y z d e p q. rulesOf-injective (p ∙ sym q);
       number-read = λ κs a y z d e p q. (p .0 ∙ sym (q .0), (p .1 .0 ∙ sym (q .1 .0), p .1 .1 ∙ sym (q .1 .1)));
       number-length = λ κs a y z d e p q. p ∙ sym q;
       number-write = λ κs a y z d e p q. (p .0 ∙ sym (q .0), (p .1 .0 ∙ sym (q .1 .0), p .1 .1 ∙ sym (q .1 .1)));

@@ -31,7 +31,6 @@ module _ (n : ℕ) (ps : List (PK n)) (r : RK n) (Told : Out n ps r) where
 -- `loader`: numbers, payloads, and the rules of a call
 pub record Numbers : Type 0 where
   pub rules : OneAnswer 0 loader.rules.Kinds.ps loader.rules.Kinds.r loader.rules.Reads.Learnt
-  pub any-rules : OneAnswer 0 loader.«any_rules».Kinds.ps loader.«any_rules».Kinds.r loader.«any_rules».Reads.Learnt
   pub number-read : OneOutcome 3 loader.«apk_number_read».Kinds.ps loader.«apk_number_read».Kinds.r loader.«apk_number_read».Reads.Learnt (λ κs d e. (now (d .1 .1 .1 .0) ≡ now (e .1 .1 .1 .0)) × (now (d .1 .1 .1 .1 .0) ≡ now (e .1 .1 .1 .1 .0)))
   pub number-length : OneAnswer 0 loader.«apk_number_length».Kinds.ps loader.«apk_number_length».Kinds.r loader.«apk_number_length».Reads.Learnt
   pub number-write : OneOutcome 2 loader.«apk_number_write».Kinds.ps loader.«apk_number_write».Kinds.r loader.«apk_number_write».Reads.Learnt (λ κs d e. (now (d .1 .0) ≡ now (e .1 .0)) × (now (d .1 .1 .1 .0) ≡ now (e .1 .1 .1 .0)))
@@ -52,10 +51,10 @@ pub record Times : Type 0 where
   pub fps-from-int : OneOutcome 1 loader-smpte.«apk_fps_from_int».Kinds.ps loader-smpte.«apk_fps_from_int».Kinds.r loader-smpte.«apk_fps_from_int».Reads.Learnt (λ κs d e. now (d .1 .0) ≡ now (e .1 .0))
   pub fps-as-f32 : OneOutcome 1 loader-smpte.«apk_fps_as_f32».Kinds.ps loader-smpte.«apk_fps_as_f32».Kinds.r loader-smpte.«apk_fps_as_f32».Reads.Learnt (λ κs d e. now (d .1 .0) ≡ now (e .1 .0))
   pub smpte-new : OneAnswer 0 loader-smpte.«apk_smpte_new».Kinds.ps loader-smpte.«apk_smpte_new».Kinds.r loader-smpte.«apk_smpte_new».Reads.Learnt
-  pub smpte-read : OneOutcome 1 loader-smpte.«apk_smpte_read».Kinds.ps loader-smpte.«apk_smpte_read».Kinds.r loader-smpte.«apk_smpte_read».Reads.Learnt (λ κs d e. now (d .1 .1 .1 .1 .1 .0) ≡ now (e .1 .1 .1 .1 .1 .0))
-  pub smpte-encode : OneOutcome 1 loader-smpte.«apk_smpte_encode».Kinds.ps loader-smpte.«apk_smpte_encode».Kinds.r loader-smpte.«apk_smpte_encode».Reads.Learnt (λ κs d e. now (d .1 .1 .1 .1 .1 .1 .0) ≡ now (e .1 .1 .1 .1 .1 .1 .0))
-  pub smpte-second-f32 : OneOutcome 1 loader-smpte.«apk_smpte_second_f32».Kinds.ps loader-smpte.«apk_smpte_second_f32».Kinds.r loader-smpte.«apk_smpte_second_f32».Reads.Learnt (λ κs d e. now (d .1 .1 .1 .1 .1 .1 .0) ≡ now (e .1 .1 .1 .1 .1 .1 .0))
-  pub smpte-position : OneOutcome 1 loader-smpte.«apk_smpte_position».Kinds.ps loader-smpte.«apk_smpte_position».Kinds.r loader-smpte.«apk_smpte_position».Reads.Learnt (λ κs d e. now (d .1 .1 .1 .1 .1 .1 .0) ≡ now (e .1 .1 .1 .1 .1 .1 .0))
+  pub smpte-read : OneOutcome 1 loader-smpte.«apk_smpte_read».Kinds.ps loader-smpte.«apk_smpte_read».Kinds.r loader-smpte.«apk_smpte_read».Reads.Learnt (λ κs d e. now (d .1 .1 .1 .1 .1 .1 .0) ≡ now (e .1 .1 .1 .1 .1 .1 .0))
+  pub smpte-encode : OneOutcome 1 loader-smpte.«apk_smpte_encode».Kinds.ps loader-smpte.«apk_smpte_encode».Kinds.r loader-smpte.«apk_smpte_encode».Reads.Learnt (λ κs d e. now (d .1 .1 .1 .1 .1 .1 .1 .0) ≡ now (e .1 .1 .1 .1 .1 .1 .1 .0))
+  pub smpte-second-f32 : OneOutcome 1 loader-smpte.«apk_smpte_second_f32».Kinds.ps loader-smpte.«apk_smpte_second_f32».Kinds.r loader-smpte.«apk_smpte_second_f32».Reads.Learnt (λ κs d e. now (d .1 .1 .1 .1 .1 .1 .1 .0) ≡ now (e .1 .1 .1 .1 .1 .1 .1 .0))
+  pub smpte-position : OneOutcome 1 loader-smpte.«apk_smpte_position».Kinds.ps loader-smpte.«apk_smpte_position».Kinds.r loader-smpte.«apk_smpte_position».Reads.Learnt (λ κs d e. now (d .1 .1 .1 .1 .1 .1 .1 .0) ≡ now (e .1 .1 .1 .1 .1 .1 .1 .0))
 
 -- `loader_bends`: bends
 pub record Bends : Type 0 where
@@ -72,14 +71,14 @@ pub record Bends : Type 0 where
 -- `loader_events`: one event
 pub record Events : Type 0 where
   pub event-read : OneOutcome 4 loader-events.«apk_event_read».Kinds.ps loader-events.«apk_event_read».Kinds.r loader-events.«apk_event_read».Reads.Learnt (λ κs d e. (now (d .1 .1 .1 .1 .0) ≡ now (e .1 .1 .1 .1 .0)) × (now (d .1 .1 .1 .1 .1 .0) ≡ now (e .1 .1 .1 .1 .1 .0)) × (now (d .1 .1 .1 .1 .1 .1 .0) ≡ now (e .1 .1 .1 .1 .1 .1 .0)))
-  pub event-length : OneOutcome 4 loader-events.«apk_event_length».Kinds.ps loader-events.«apk_event_length».Kinds.r loader-events.«apk_event_length».Reads.Learnt (λ κs d e. (now (d .1 .1 .1 .0) ≡ now (e .1 .1 .1 .0)) × (now (d .1 .1 .1 .1 .0) ≡ now (e .1 .1 .1 .1 .0)))
-  pub event-write : OneOutcome 5 loader-events.«apk_event_write».Kinds.ps loader-events.«apk_event_write».Kinds.r loader-events.«apk_event_write».Reads.Learnt (λ κs d e. (now (d .1 .1 .1 .0) ≡ now (e .1 .1 .1 .0)) × (now (d .1 .1 .1 .1 .1 .0) ≡ now (e .1 .1 .1 .1 .1 .0)) × (now (d .1 .1 .1 .1 .1 .1 .0) ≡ now (e .1 .1 .1 .1 .1 .1 .0)))
+  pub event-length : OneOutcome 4 loader-events.«apk_event_length».Kinds.ps loader-events.«apk_event_length».Kinds.r loader-events.«apk_event_length».Reads.Learnt (λ κs d e. (now (d .1 .1 .1 .1 .0) ≡ now (e .1 .1 .1 .1 .0)) × (now (d .1 .1 .1 .1 .1 .0) ≡ now (e .1 .1 .1 .1 .1 .0)))
+  pub event-write : OneOutcome 5 loader-events.«apk_event_write».Kinds.ps loader-events.«apk_event_write».Kinds.r loader-events.«apk_event_write».Reads.Learnt (λ κs d e. (now (d .1 .1 .1 .1 .0) ≡ now (e .1 .1 .1 .1 .0)) × (now (d .1 .1 .1 .1 .1 .1 .0) ≡ now (e .1 .1 .1 .1 .1 .1 .0)) × (now (d .1 .1 .1 .1 .1 .1 .1 .0) ≡ now (e .1 .1 .1 .1 .1 .1 .1 .0)))
 
 -- `loader_lists`: lists
 pub record Lists : Type 0 where
   pub list-read : OneOutcome 5 loader-lists.read.«apk_list_read».Kinds.ps loader-lists.read.«apk_list_read».Kinds.r loader-lists.read.«apk_list_read».Reads.Learnt (λ κs d e. (now (d .1 .1 .1 .1 .0) ≡ now (e .1 .1 .1 .1 .0)) × (now (d .1 .1 .1 .1 .1 .0) ≡ now (e .1 .1 .1 .1 .1 .0)) × (now (d .1 .1 .1 .1 .1 .1 .0) ≡ now (e .1 .1 .1 .1 .1 .1 .0)) × (now (d .1 .1 .1 .1 .1 .1 .1 .0) ≡ now (e .1 .1 .1 .1 .1 .1 .1 .0)))
-  pub list-length : OneOutcome 5 loader-lists.write.«apk_list_length».Kinds.ps loader-lists.write.«apk_list_length».Kinds.r loader-lists.write.«apk_list_length».Reads.Learnt (λ κs d e. (now (d .1 .1 .1 .1 .0) ≡ now (e .1 .1 .1 .1 .0)) × (now (d .1 .1 .1 .1 .1 .0) ≡ now (e .1 .1 .1 .1 .1 .0)) × (now (d .1 .1 .1 .1 .1 .1 .0) ≡ now (e .1 .1 .1 .1 .1 .1 .0)))
-  pub list-write : OneOutcome 6 loader-lists.write.«apk_list_write».Kinds.ps loader-lists.write.«apk_list_write».Kinds.r loader-lists.write.«apk_list_write».Reads.Learnt (λ κs d e. (now (d .1 .1 .1 .1 .0) ≡ now (e .1 .1 .1 .1 .0)) × (now (d .1 .1 .1 .1 .1 .0) ≡ now (e .1 .1 .1 .1 .1 .0)) × (now (d .1 .1 .1 .1 .1 .1 .0) ≡ now (e .1 .1 .1 .1 .1 .1 .0)) × (now (d .1 .1 .1 .1 .1 .1 .1 .0) ≡ now (e .1 .1 .1 .1 .1 .1 .1 .0)))
+  pub list-length : OneOutcome 5 loader-lists.write.«apk_list_length».Kinds.ps loader-lists.write.«apk_list_length».Kinds.r loader-lists.write.«apk_list_length».Reads.Learnt (λ κs d e. (now (d .1 .1 .1 .1 .1 .0) ≡ now (e .1 .1 .1 .1 .1 .0)) × (now (d .1 .1 .1 .1 .1 .1 .0) ≡ now (e .1 .1 .1 .1 .1 .1 .0)) × (now (d .1 .1 .1 .1 .1 .1 .1 .0) ≡ now (e .1 .1 .1 .1 .1 .1 .1 .0)))
+  pub list-write : OneOutcome 6 loader-lists.write.«apk_list_write».Kinds.ps loader-lists.write.«apk_list_write».Kinds.r loader-lists.write.«apk_list_write».Reads.Learnt (λ κs d e. (now (d .1 .1 .1 .1 .1 .0) ≡ now (e .1 .1 .1 .1 .1 .0)) × (now (d .1 .1 .1 .1 .1 .1 .0) ≡ now (e .1 .1 .1 .1 .1 .1 .0)) × (now (d .1 .1 .1 .1 .1 .1 .1 .0) ≡ now (e .1 .1 .1 .1 .1 .1 .1 .0)) × (now (d .1 .1 .1 .1 .1 .1 .1 .1 .0) ≡ now (e .1 .1 .1 .1 .1 .1 .1 .1 .0)))
 
 -- `loader_same`: sameness
 pub record Sameness : Type 0 where

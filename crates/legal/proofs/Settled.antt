@@ -54,20 +54,20 @@ pub bytes-settled : (rules : Rules) (running : ℕ) (bytes : List ℕ) (e : Even
     → eventBytes rules running bytes e ≡ andThen (settled (legal rules bytes e)) (λ u. gives (encodeEvent running (mapEvent (bytesOf bytes) e)))
 unfolding eventBytes legal
 bytes-settled rules running bytes e =
-    made (mapEvent (bytesOf bytes) e) (encodeEvent running) (ltb (e .delta) (2 ^ 28) && kindFits (e .kind)) (inside bytes (kindLoad noSpan (e .kind)))
+    made (mapEvent (bytesOf bytes) e) (encodeEvent running) (ltb (e .delta) (2 ^ 28) && kindFits rules (e .kind)) (inside bytes (kindLoad noSpan (e .kind)))
     (ltb (spanLength (kindLoad noSpan (e .kind))) (2 ^ 28))
-    (kindMisnamed spanLength (e .kind))
+    (kindMisnamed rules spanLength (e .kind))
 
 module _ (rules : Rules) (bytes : List ℕ) (delta : ℕ) where
   -- an event's legality by its tests
   legal-judged : (k : Kind Span)
       → settled (legal rules bytes (event delta k))
-      ≡ judged (ltb delta (2 ^ 28) && kindFits k) (inside bytes (kindLoad noSpan k)) (ltb (spanLength (kindLoad noSpan k)) (2 ^ 28)) (kindMisnamed spanLength k)
+      ≡ judged (ltb delta (2 ^ 28) && kindFits rules k) (inside bytes (kindLoad noSpan k)) (ltb (spanLength (kindLoad noSpan k)) (2 ^ 28)) (kindMisnamed rules spanLength k)
   unfolding legal
   legal-judged k =
-      settling (mapEvent (bytesOf bytes) (event delta k)) (ltb delta (2 ^ 28) && kindFits k) (inside bytes (kindLoad noSpan k))
+      settling (mapEvent (bytesOf bytes) (event delta k)) (ltb delta (2 ^ 28) && kindFits rules k) (inside bytes (kindLoad noSpan k))
       (ltb (spanLength (kindLoad noSpan k)) (2 ^ 28))
-      (kindMisnamed spanLength k)
+      (kindMisnamed rules spanLength k)
 
   -- of a kind that carries no payload
   empty : inside bytes noSpan ≡ true
@@ -78,23 +78,23 @@ module _ (rules : Rules) (bytes : List ℕ) (delta : ℕ) where
   pub midi-settled : (channel : ℕ) (m : Message)
       → settled (legal rules bytes (event delta (midi channel m))) ≡ pick (channelFits delta channel (channelOf channel m)) (gives tt) (refuses 18)
   unfolding channelFits kindFits kindLoad kindMisnamed
-  midi-settled channel m = legal-judged (midi channel m) ∙ rw (empty, data-fit channel m)
+  midi-settled channel m = legal-judged (midi channel m) ∙ rw (empty, data-fit rules channel m)
 
   -- F0 and F7
   system-settled : (status : ℕ) (k : Span → Kind Span) → (span : Span)
-      → kindFits (k span) ≡ true → kindLoad noSpan (k span) ≡ span → kindMisnamed spanLength (k span) ≡ false
-      → settled (legal rules bytes (event delta (k span))) ≡ eventAllowed bytes delta (System status (rangeOf span))
+      → kindFits rules (k span) ≡ true → kindLoad noSpan (k span) ≡ span → kindMisnamed rules spanLength (k span) ≡ false
+      → settled (legal rules bytes (event delta (k span))) ≡ eventAllowed rules bytes delta (System status (rangeOf span))
   unfolding eventAllowed formAllowed loadAllowed
   system-settled status k span f l m = legal-judged (k span) ∙ rw (f, l, m) (all (ltb delta (2 ^ 28))) where
     all : (t : Bool) → judged (t && true) (inside bytes span) (ltb (span .length) (2 ^ 28)) false ≡ pick t (loadAllowed bytes span) (refuses 18)
     all true = refl
     all false = refl
 
-  pub sys-ex-settled : (span : Span) → settled (legal rules bytes (event delta (sysEx span))) ≡ eventAllowed bytes delta (System 0xF0 (rangeOf span))
+  pub sys-ex-settled : (span : Span) → settled (legal rules bytes (event delta (sysEx span))) ≡ eventAllowed rules bytes delta (System 0xF0 (rangeOf span))
   unfolding kindFits kindLoad kindMisnamed
   sys-ex-settled span = system-settled 0xF0 sysEx span refl refl refl
 
-  pub escape-settled : (span : Span) → settled (legal rules bytes (event delta (escape span))) ≡ eventAllowed bytes delta (System 0xF7 (rangeOf span))
+  pub escape-settled : (span : Span) → settled (legal rules bytes (event delta (escape span))) ≡ eventAllowed rules bytes delta (System 0xF7 (rangeOf span))
   unfolding kindFits kindLoad kindMisnamed
   escape-settled span = system-settled 0xF7 escape span refl refl refl
 
@@ -104,25 +104,25 @@ module _ (rules : Rules) (bytes : List ℕ) (delta : ℕ) where
   loads fits span = refl
 
   -- a width is tested with the delta's, or before a form is made
-  widths : (t u : Bool) (shape : Form) → pick (t && u) (formAllowed bytes shape) (refuses 18) ≡ pick t (formAllowed bytes (pick u shape AboveWidth)) (refuses 18)
+  widths : (t u : Bool) (shape : Form) → pick (t && u) (formAllowed rules bytes shape) (refuses 18) ≡ pick t (formAllowed rules bytes (pick u shape AboveWidth)) (refuses 18)
   unfolding formAllowed
   widths true true shape = refl
   widths true false shape = refl
   widths false u shape = refl
 
   -- an `Unknown`'s type is tested last
-  unknowns : (fits : Bool) (t : ℕ) (span : Span) → judged fits (inside bytes span) (ltb (span .length) (2 ^ 28)) (isNamed t (span .length)) ≡ pick fits (unknownAllowed bytes t span) (refuses 18)
+  unknowns : (fits : Bool) (t : ℕ) (span : Span) → judged fits (inside bytes span) (ltb (span .length) (2 ^ 28)) (isNamed rules t (span .length)) ≡ pick fits (unknownAllowed rules bytes t span) (refuses 18)
   unfolding unknownAllowed loadAllowed
-  unknowns fits t span = named-last fits (inside bytes span) (ltb (span .length) (2 ^ 28)) (isNamed t (span .length))
+  unknowns fits t span = named-last fits (inside bytes span) (ltb (span .length) (2 ^ 28)) (isNamed rules t (span .length))
 
   -- a meta message
   meta-judged : (m : Meta Span)
-      → judged (ltb delta (2 ^ 28) && metaFits m) (inside bytes (metaLoad noSpan m)) (ltb (spanLength (metaLoad noSpan m)) (2 ^ 28)) (metaMisnamed spanLength m)
-      ≡ pick (ltb delta (2 ^ 28) && metaFits m) (formAllowed bytes (shapeOf m)) (refuses 18)
+      → judged (ltb delta (2 ^ 28) && metaFits rules m) (inside bytes (metaLoad noSpan m)) (ltb (spanLength (metaLoad noSpan m)) (2 ^ 28)) (metaMisnamed rules spanLength m)
+      ≡ pick (ltb delta (2 ^ 28) && metaFits rules m) (formAllowed rules bytes (shapeOf m)) (refuses 18)
   unfolding metaLoad metaMisnamed shapeOf formAllowed
   meta-judged (trackNumber n) = rw empty
   meta-judged noTrackNumber = rw empty
-  meta-judged (text t p) = loads (ltb delta (2 ^ 28) && metaFits (text t p)) p
+  meta-judged (text t p) = loads (ltb delta (2 ^ 28) && metaFits rules (text t p)) p
   meta-judged (midiChannel c) = rw empty
   meta-judged (midiPort c) = rw empty
   meta-judged endOfTrack = rw empty
@@ -130,9 +130,9 @@ module _ (rules : Rules) (bytes : List ℕ) (delta : ℕ) where
   meta-judged (smpteOffset t) = rw empty
   meta-judged (timeSignature a b c d) = rw empty
   meta-judged (keySignature sharps minor) = rw empty
-  meta-judged (sequencerSpecific p) = loads (ltb delta (2 ^ 28) && metaFits (sequencerSpecific p)) p
-  meta-judged (unknown t p) = unknowns (ltb delta (2 ^ 28) && metaFits (unknown t p)) t p
+  meta-judged (sequencerSpecific p) = loads (ltb delta (2 ^ 28) && metaFits rules (sequencerSpecific p)) p
+  meta-judged (unknown t p) = unknowns (ltb delta (2 ^ 28) && metaFits rules (unknown t p)) t p
 
-  pub meta-settled : (m : Meta Span) → settled (legal rules bytes (event delta (meta m))) ≡ eventAllowed bytes delta (metaForm m)
+  pub meta-settled : (m : Meta Span) → settled (legal rules bytes (event delta (meta m))) ≡ eventAllowed rules bytes delta (metaForm rules m)
   unfolding eventAllowed metaForm kindFits kindLoad kindMisnamed
-  meta-settled m = legal-judged (meta m) ∙ meta-judged m ∙ widths (ltb delta (2 ^ 28)) (metaFits m) (shapeOf m)
+  meta-settled m = legal-judged (meta m) ∙ meta-judged m ∙ widths (ltb delta (2 ^ 28)) (metaFits rules m) (shapeOf m)

@@ -27,8 +27,8 @@ pub enum Verdict {
 }
 
 // Whether a meta type with so many bytes reads as a named kind, or is refused as 59.
-fn is_named(type_byte: u8, n: usize) -> bool
-    ensures { λ r. ⌜ r ≡ isNamed «type_byte» n ⌝ }
+fn is_named(type_byte: u8, n: usize, rules: Rules) -> bool
+    ensures { λ r. ⌜ r ≡ isNamed (rulesOf rules) «type_byte» n ⌝ }
 {
     if type_byte <= 0x09 {
         return true;
@@ -62,13 +62,13 @@ fn load_legality(load: Range, bytes: &[u8]) -> Verdict
 }
 
 // A named type is looked for last.
-fn unknown_legality(type_byte: u8, load: Range, bytes: &[u8]) -> Verdict
-    ensures { λ r. ⌜ verdictOf r ≡ unknownAllowed (now (bytes .entry)) «type_byte» (spanOf load) ⌝ }
+fn unknown_legality(type_byte: u8, load: Range, rules: Rules, bytes: &[u8]) -> Verdict
+    ensures { λ r. ⌜ verdictOf r ≡ unknownAllowed (rulesOf rules) (now (bytes .entry)) «type_byte» (spanOf load) ⌝ }
 {
     match load_legality(load, bytes) {
         Verdict::Refused(refusal) => Verdict::Refused(refusal),
         Verdict::Legal => {
-            if is_named(type_byte, load.length) {
+            if is_named(type_byte, load.length, rules) {
                 return Verdict::Refused(Refusal::UnknownNamed);
             }
             Verdict::Legal
@@ -77,8 +77,8 @@ fn unknown_legality(type_byte: u8, load: Range, bytes: &[u8]) -> Verdict
 }
 
 // A form behind a delta.
-pub fn form_legality(delta: u28, form: Form, bytes: &[u8]) -> Verdict
-    ensures { λ r. ⌜ verdictOf r ≡ eventAllowed (now (bytes .entry)) (delta .0) form ⌝ }
+pub fn form_legality(delta: u28, form: Form, rules: Rules, bytes: &[u8]) -> Verdict
+    ensures { λ r. ⌜ verdictOf r ≡ eventAllowed (rulesOf rules) (now (bytes .entry)) (delta .0) form ⌝ }
 {
     if 0x1000_0000 <= delta.0 {
         return Verdict::Refused(Refusal::AboveWidth);
@@ -87,7 +87,7 @@ pub fn form_legality(delta: u28, form: Form, bytes: &[u8]) -> Verdict
         Form::AboveWidth => Verdict::Refused(Refusal::AboveWidth),
         Form::System(_, load) => load_legality(load, bytes),
         Form::Typed(_, load) => load_legality(load, bytes),
-        Form::Unknown(type_byte, load) => unknown_legality(type_byte, load, bytes),
+        Form::Unknown(type_byte, load) => unknown_legality(type_byte, load, rules, bytes),
         Form::Fixed(_, own) => {
             if 5 < own.n {
                 return Verdict::Refused(Refusal::PayloadOutside);
@@ -106,7 +106,6 @@ fn midi_legality(delta: u28, channel: u4, message: MidiMessage) -> Verdict
     Verdict::Refused(Refusal::AboveWidth)
 }
 
-// The rules do not matter: what is strict is reading.
 pub fn legality(event: TrackEvent, rules: Rules, bytes: &[u8]) -> Verdict
     ensures { λ r. ⌜ verdictOf r ≡ settled (legal (rulesOf rules) (now (bytes .entry)) (eventOf event)) ⌝ }
 {
@@ -114,8 +113,18 @@ pub fn legality(event: TrackEvent, rules: Rules, bytes: &[u8]) -> Verdict
     let kind = event.kind;
     match kind {
         TrackEventKind::Midi { channel, message } => midi_legality(delta, channel, message),
-        TrackEventKind::SysEx(load) => form_legality(delta, Form::System(0xF0, load), bytes),
-        TrackEventKind::Escape(load) => form_legality(delta, Form::System(0xF7, load), bytes),
-        TrackEventKind::Meta(message) => form_legality(delta, meta_form(message), bytes),
+        TrackEventKind::SysEx(load) => form_legality(delta, Form::System(0xF0, load), rules, bytes),
+        TrackEventKind::Escape(load) => form_legality(
+            delta,
+            Form::System(0xF7, load),
+            rules,
+            bytes,
+        ),
+        TrackEventKind::Meta(message) => form_legality(
+            delta,
+            meta_form(message, rules),
+            rules,
+            bytes,
+        ),
     }
 }

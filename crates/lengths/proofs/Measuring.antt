@@ -84,7 +84,7 @@ module _ (rules : Rules) (bytes : List ℕ) (running : ℕ) (es : List (Event Sp
 
       one-most : s .length ≤ most
       unfolding own
-      one-most = omega (arith, same-length, event-most status own (legal-exactly rules bytes (getD es i d) (lawful .0) .0 (lawful .1) .1))
+      one-most = omega (arith, same-length, event-most rules status own (legal-exactly rules bytes (getD es i d) (lawful .0) .0 (lawful .1) .1))
 
       one-more : Seen (n + s .length) (s .running .status) (i + 1)
       unfolding own

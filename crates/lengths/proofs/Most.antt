@@ -6,6 +6,7 @@ use Prim.Native.Nat.{ℕ, _+_, _≤_}
 use native.Mathlib.Omega.{arith}
 use lib.Dec.{eqb}
 use lib.ListN.{length}
+use Rattle.smf.specs.Answer.{Rules}
 use Rattle.smf.specs.Wire.{Raw, one, two, system, typed, rawEvent, encodeRaw}
 use Rattle.smf.specs.Kind.{rawOf}
 use Rattle.smf.specs.Event.{Event, isLegal, encodeEvent}
@@ -26,8 +27,8 @@ raw-most running (two status a b) s = pick-both (λ (l : List ℕ). length l + 4
 raw-most running (system status p) s = omega (arith, encode-payload-length p, encode-most (length p), s .1)
 raw-most running (typed t p) s = omega (arith, encode-payload-length p, encode-most (length p), s)
 
-pub event-most : (running : ℕ) (e : Event (List ℕ)) → isLegal e ≡ true → length (encodeEvent running e) ≤ most
+pub event-most : (rules : Rules) (running : ℕ) (e : Event (List ℕ)) → isLegal rules e ≡ true → length (encodeEvent running e) ≤ most
 unfolding encodeEvent
-event-most running e h =
-    let l = is-legal e h in
-    omega (arith, raw-event-length running (rawEvent (e .delta) (rawOf (e .kind))), encode-most (e .delta), raw-most running (rawOf (e .kind)) (kind-sound (e .kind) (l .kind)))
+event-most rules running e h =
+    let l = is-legal rules e h in
+    omega (arith, raw-event-length running (rawEvent (e .delta) (rawOf (e .kind))), encode-most (e .delta), raw-most running (rawOf (e .kind)) (kind-sound rules (e .kind) (l .kind)))

@@ -1,16 +1,11 @@
 -- What an exported entry leaves its caller with: an answer, and what the values lent to it hold.
-use mathlib.Core.Bool.{true, not}
-use Prim.Native.Nat.{ℕ}
+use Prim.Native.Nat.{ℕ, _%_}
 use lib.Dec.{eqb}
 use Rattle.smf.specs.Answer.{Answer, gives, refuses, Rules}
 
--- the rules that a flag sets: strict where it is not 0
-abbrev pub flagged : ℕ → Rules
-flagged strict = record { strict = not (eqb strict 0) }
-
--- the rules that a writer is given; document 01: what is strict is reading
-abbrev pub anyRules : Rules
-anyRules = record { strict = true }
+-- the rules that a set of bits says: bit 0 strict; the other bits mean nothing, and are not looked at
+abbrev pub fromBits : ℕ → Rules
+fromBits bits = record { strict = eqb (bits % 2) 1 }
 
 -- the answer: 0 where it is accepted, else the refusal's number in document 01's table
 abbrev pub answered : {A : Type 0} → Answer A → ℕ

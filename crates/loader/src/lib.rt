@@ -8,7 +8,7 @@ ghost use Rattle.smf.specs.Number.{encodeNumber};
 ghost use Rattle.smf.specs.Place.{NumberAt, Span, numberAt, payloadAt};
 ghost use Rattle.smf.specs.Write.{write, numberBytes, payloadBytes};
 ghost use Rattle.rules.specs.Rules.{rulesOf};
-ghost use Rattle.loader.specs.Entry.{flagged, anyRules, answered, leaves};
+ghost use Rattle.loader.specs.Entry.{fromBits, answered, leaves};
 use number::varlen::ReadNumber;
 use number::varlen::Written;
 use number::varlen::u28;
@@ -16,20 +16,13 @@ use payload::ReadSlice;
 use rules::Range;
 use rules::Rules;
 
-// The rules that a flag sets: strict where it is not 0.
-pub fn rules(strict: u8) -> Rules
-    ensures { λ r. ⌜ rulesOf r ≡ flagged strict ⌝ }
+// The rules that a set of bits says: bit 0 strict. Bits that mean nothing yet are not looked at.
+pub fn rules(bits: u8) -> Rules
+    ensures { λ r. ⌜ rulesOf r ≡ fromBits bits ⌝ }
 {
     Rules {
-        strict: strict != 0,
+        strict: bits % 2 == 1,
     }
-}
-
-// The rules that writers are given. They do not matter: what is strict is reading.
-pub fn any_rules() -> Rules
-    ensures { λ r. ⌜ rulesOf r ≡ anyRules ⌝ }
-{
-    Rules { strict: true }
 }
 
 // The number at a place: its value, and the place after it.
@@ -37,15 +30,15 @@ pub fn any_rules() -> Rules
 pub extern "C" fn apk_number_read(
     bytes: &[u8],
     at: usize,
-    strict: u8,
+    bits: u8,
     value: &mut u32,
     next: &mut usize,
 ) -> u8
-    ensures answer { λ r. ⌜ r ≡ answered (numberAt (flagged strict) (now (bytes .entry)) at) ⌝ }
-    ensures value { λ r. ⌜ now (value .exit) ≡ leaves (λ (n : NumberAt). n .value) (numberAt (flagged strict) (now (bytes .entry)) at) (now (value .entry)) ⌝ }
-    ensures next { λ r. ⌜ now (next .exit) ≡ leaves (λ (n : NumberAt). n .next) (numberAt (flagged strict) (now (bytes .entry)) at) (now (next .entry)) ⌝ }
+    ensures answer { λ r. ⌜ r ≡ answered (numberAt (fromBits bits) (now (bytes .entry)) at) ⌝ }
+    ensures value { λ r. ⌜ now (value .exit) ≡ leaves (λ (n : NumberAt). n .value) (numberAt (fromBits bits) (now (bytes .entry)) at) (now (value .entry)) ⌝ }
+    ensures next { λ r. ⌜ now (next .exit) ≡ leaves (λ (n : NumberAt). n .next) (numberAt (fromBits bits) (now (bytes .entry)) at) (now (next .entry)) ⌝ }
 {
-    match u28::read_u7(bytes, at, rules(strict)) {
+    match u28::read_u7(bytes, at, rules(bits)) {
         ReadNumber::Refused(refusal) => refusal.number(),
         ReadNumber::Number(found) => {
             *value = found.value.0;
@@ -84,15 +77,15 @@ pub extern "C" fn apk_number_write(value: u32, out: &mut [u8], at: usize, next: 
 pub extern "C" fn apk_payload_read(
     bytes: &[u8],
     at: usize,
-    strict: u8,
+    bits: u8,
     start: &mut usize,
     length: &mut usize,
 ) -> u8
-    ensures answer { λ r. ⌜ r ≡ answered (payloadAt (flagged strict) (now (bytes .entry)) at) ⌝ }
-    ensures start { λ r. ⌜ now (start .exit) ≡ leaves (λ (n : Span). n .start) (payloadAt (flagged strict) (now (bytes .entry)) at) (now (start .entry)) ⌝ }
-    ensures length { λ r. ⌜ now (length .exit) ≡ leaves (λ (n : Span). n .length) (payloadAt (flagged strict) (now (bytes .entry)) at) (now (length .entry)) ⌝ }
+    ensures answer { λ r. ⌜ r ≡ answered (payloadAt (fromBits bits) (now (bytes .entry)) at) ⌝ }
+    ensures start { λ r. ⌜ now (start .exit) ≡ leaves (λ (n : Span). n .start) (payloadAt (fromBits bits) (now (bytes .entry)) at) (now (start .entry)) ⌝ }
+    ensures length { λ r. ⌜ now (length .exit) ≡ leaves (λ (n : Span). n .length) (payloadAt (fromBits bits) (now (bytes .entry)) at) (now (length .entry)) ⌝ }
 {
-    match payload::read_varlen_slice(bytes, at, rules(strict)) {
+    match payload::read_varlen_slice(bytes, at, rules(bits)) {
         ReadSlice::Refused(refusal) => refusal.number(),
         ReadSlice::Slice(found) => {
             *start = found.start;

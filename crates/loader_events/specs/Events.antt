@@ -1,11 +1,10 @@
 -- What reading, measuring and writing an event leave the caller with: an event is a row of ten numbers.
 use mathlib.Core.List.{List}
 use Prim.Native.Nat.{ℕ}
-use Rattle.smf.specs.Answer.{pick, Answer, refuses}
+use Rattle.smf.specs.Answer.{pick, Answer, refuses, Rules}
 use Rattle.smf.specs.Running.{isRunning}
 use Rattle.smf.specs.Wire.{Reading, reads, refused}
 use Rattle.smf.specs.Event.{EventAt, EventWritten, writeEvent}
-use Rattle.loader.specs.Entry.{anyRules}
 use Rattle.measure.specs.Length.{Size, eventSize}
 use Rattle.rows.specs.Rows.{eventRow}
 use Rattle.rows_back.specs.RowEvent.{rowEvent}
@@ -31,9 +30,9 @@ readRunning (reads e) = e .running
 readRunning (refused n running) = running
 
 -- how long the bytes of a row's event are, and the running status after it; document 01: 1, then 18, 19, 22, 23
-abbrev pub rowSize : ℕ → List ℕ → List ℕ → Answer Size
-rowSize running payload row = pick (isRunning running) (eventSize anyRules running payload (rowEvent row)) (refuses 1)
+abbrev pub rowSize : Rules → ℕ → List ℕ → List ℕ → Answer Size
+rowSize rules running payload row = pick (isRunning running) (eventSize rules running payload (rowEvent row)) (refuses 1)
 
 -- what writing a row's event leaves
-abbrev pub rowWritten : ℕ → List ℕ → List ℕ → List ℕ → ℕ → EventWritten
-rowWritten running payload row buffer at = writeEvent anyRules running payload (rowEvent row) buffer at
+abbrev pub rowWritten : Rules → ℕ → List ℕ → List ℕ → List ℕ → ℕ → EventWritten
+rowWritten rules running payload row buffer at = writeEvent rules running payload (rowEvent row) buffer at

@@ -3,11 +3,10 @@ ghost use mathlib.Core.Path.{_≡_};
 ghost use Prim.Native.Nat.{ℕ};
 ghost use Rattle.smf.specs.Event.{eventAt};
 ghost use Rattle.measure.specs.Length.{Size};
-ghost use Rattle.loader.specs.Entry.{flagged, answered, leaves};
+ghost use Rattle.loader.specs.Entry.{fromBits, answered, leaves};
 ghost use Rattle.loader_events.specs.Events.{readAnswered, readRow, readUsed, readRunning, rowSize, rowWritten};
 use event::read::ReadEvent;
 use event::track_event::TrackEvent;
-use loader::any_rules;
 use loader::rules;
 use measure::length::EventLength;
 use measure::length::event_length;
@@ -24,17 +23,17 @@ pub extern "C" fn apk_event_read(
     bytes: &[u8],
     at: usize,
     running: u8,
-    strict: u8,
+    bits: u8,
     row: &mut [u64; 10],
     used: &mut usize,
     after: &mut u8,
 ) -> u8
-    ensures answer { λ r. ⌜ r ≡ readAnswered (eventAt (flagged strict) running (now (bytes .entry)) at) ⌝ }
-    ensures row { λ r. ⌜ now (row .exit) ≡ readRow (eventAt (flagged strict) running (now (bytes .entry)) at) (now (row .entry)) ⌝ }
-    ensures used { λ r. ⌜ now (used .exit) ≡ readUsed (eventAt (flagged strict) running (now (bytes .entry)) at) ⌝ }
-    ensures after { λ r. ⌜ now (after .exit) ≡ readRunning (eventAt (flagged strict) running (now (bytes .entry)) at) ⌝ }
+    ensures answer { λ r. ⌜ r ≡ readAnswered (eventAt (fromBits bits) running (now (bytes .entry)) at) ⌝ }
+    ensures row { λ r. ⌜ now (row .exit) ≡ readRow (eventAt (fromBits bits) running (now (bytes .entry)) at) (now (row .entry)) ⌝ }
+    ensures used { λ r. ⌜ now (used .exit) ≡ readUsed (eventAt (fromBits bits) running (now (bytes .entry)) at) ⌝ }
+    ensures after { λ r. ⌜ now (after .exit) ≡ readRunning (eventAt (fromBits bits) running (now (bytes .entry)) at) ⌝ }
 {
-    match TrackEvent::read(bytes, at, Running { status: running }, rules(strict)) {
+    match TrackEvent::read(bytes, at, Running { status: running }, rules(bits)) {
         ReadEvent::Refused(n) => {
             let refusal = n.refusal;
             *used = 0;
@@ -58,17 +57,18 @@ pub extern "C" fn apk_event_length(
     row: &[u64; 10],
     payload: &[u8],
     running: u8,
+    bits: u8,
     length: &mut usize,
     after: &mut u8,
 ) -> u8
-    ensures answer { λ r. ⌜ r ≡ answered (rowSize running (now (payload .entry)) (now (row .entry))) ⌝ }
-    ensures length { λ r. ⌜ now (length .exit) ≡ leaves (λ (n : Size). n .length) (rowSize running (now (payload .entry)) (now (row .entry))) (now (length .entry)) ⌝ }
-    ensures after { λ r. ⌜ now (after .exit) ≡ leaves (λ (n : Size). n .running) (rowSize running (now (payload .entry)) (now (row .entry))) (now (after .entry)) ⌝ }
+    ensures answer { λ r. ⌜ r ≡ answered (rowSize (fromBits bits) running (now (payload .entry)) (now (row .entry))) ⌝ }
+    ensures length { λ r. ⌜ now (length .exit) ≡ leaves (λ (n : Size). n .length) (rowSize (fromBits bits) running (now (payload .entry)) (now (row .entry))) (now (length .entry)) ⌝ }
+    ensures after { λ r. ⌜ now (after .exit) ≡ leaves (λ (n : Size). n .running) (rowSize (fromBits bits) running (now (payload .entry)) (now (row .entry))) (now (after .entry)) ⌝ }
 {
     match event_length(
         row_event(*row),
         Running { status: running },
-        any_rules(),
+        rules(bits),
         payload,
     ) {
         EventLength::Refused(refusal) => refusal.number(),
@@ -87,20 +87,21 @@ pub extern "C" fn apk_event_write(
     row: &[u64; 10],
     payload: &[u8],
     running: u8,
+    bits: u8,
     out: &mut [u8],
     at: usize,
     next: &mut usize,
     after: &mut u8,
 ) -> u8
-    ensures answer { λ r. ⌜ r ≡ answered (rowWritten running (now (payload .entry)) (now (row .entry)) (now (out .entry)) at .written .answer) ⌝ }
-    ensures buffer { λ r. ⌜ now (out .exit) ≡ rowWritten running (now (payload .entry)) (now (row .entry)) (now (out .entry)) at .written .buffer ⌝ }
-    ensures next { λ r. ⌜ now (next .exit) ≡ leaves (λ (n : ℕ). n) (rowWritten running (now (payload .entry)) (now (row .entry)) (now (out .entry)) at .written .answer) (now (next .entry)) ⌝ }
-    ensures after { λ r. ⌜ now (after .exit) ≡ rowWritten running (now (payload .entry)) (now (row .entry)) (now (out .entry)) at .running ⌝ }
+    ensures answer { λ r. ⌜ r ≡ answered (rowWritten (fromBits bits) running (now (payload .entry)) (now (row .entry)) (now (out .entry)) at .written .answer) ⌝ }
+    ensures buffer { λ r. ⌜ now (out .exit) ≡ rowWritten (fromBits bits) running (now (payload .entry)) (now (row .entry)) (now (out .entry)) at .written .buffer ⌝ }
+    ensures next { λ r. ⌜ now (next .exit) ≡ leaves (λ (n : ℕ). n) (rowWritten (fromBits bits) running (now (payload .entry)) (now (row .entry)) (now (out .entry)) at .written .answer) (now (next .entry)) ⌝ }
+    ensures after { λ r. ⌜ now (after .exit) ≡ rowWritten (fromBits bits) running (now (payload .entry)) (now (row .entry)) (now (out .entry)) at .running ⌝ }
 {
     match write_row(
         *row,
         Running { status: running },
-        any_rules(),
+        rules(bits),
         payload,
         out,
         at,

@@ -6,7 +6,7 @@ use Prim.Native.Nat.{ℕ}
 use native.Mathlib.Omega.{arith}
 use lib.ListN.{take}
 use lib.Seq.{take-append-seam}
-use Rattle.smf.specs.Answer.{Answer, gives, refuses, andThen}
+use Rattle.smf.specs.Answer.{Answer, gives, refuses, andThen, Rules}
 use Rattle.smf.specs.Place.{Span}
 use Rattle.smf.specs.Running.{isRunning}
 use Rattle.smf.specs.Event.{Event}
@@ -14,7 +14,6 @@ use Rattle.smf.specs.Lists.{ListAt, Held, holding, unsized, sizeList, listLeft,
 use Rattle.track.specs.List.{capacity}
 use Rattle.sheet.specs.Read.{SheetAt, sheetAt}
 use Rattle.sheet_back.specs.SheetList.{sheetList}
-use Rattle.loader.specs.Entry.{anyRules}
 use Rattle.loader_lists.specs.Lists.{sheetSize, sheetWritten}
 
 -- a list counts the events that it was made of
@@ -22,31 +21,31 @@ pub held-events : (most : ℕ) (es : List (Event Span)) → take (holding most e
 unfolding holding
 held-events most es = take-append-seam es _
 
-module _ (running : ℕ) (payload cells : List ℕ) (count : ℕ) where
-  pub size-invalid : isRunning running ≡ false → unsized running 1 0 ≡ sheetSize running payload cells count
+module _ (rules : Rules) (running : ℕ) (payload cells : List ℕ) (count : ℕ) where
+  pub size-invalid : isRunning running ≡ false → unsized running 1 0 ≡ sheetSize rules running payload cells count
   unfolding sheetSize
   size-invalid v = rw v
 
-  pub size-none : {n : ℕ} → isRunning running ≡ true → sheetList capacity cells count ≡ refuses n → unsized running n 0 ≡ sheetSize running payload cells count
+  pub size-none : {n : ℕ} → isRunning running ≡ true → sheetList capacity cells count ≡ refuses n → unsized running n 0 ≡ sheetSize rules running payload cells count
   unfolding sheetSize
   size-none v e = rw (v, e)
 
   pub size-list : {h : Held} → isRunning running ≡ true → sheetList capacity cells count ≡ gives h
-      → sizeList anyRules capacity running payload (h .records) (h .count) ≡ sheetSize running payload cells count
+      → sizeList rules capacity running payload (h .records) (h .count) ≡ sheetSize rules running payload cells count
   unfolding sheetSize
   size-list v e = rw (v, e)
 
   module _ (buffer : List ℕ) where
-    pub write-invalid : isRunning running ≡ false → listLeft running buffer 1 0 ≡ sheetWritten running payload cells count buffer
+    pub write-invalid : isRunning running ≡ false → listLeft running buffer 1 0 ≡ sheetWritten rules running payload cells count buffer
     unfolding sheetWritten
     write-invalid v = rw v
 
-    pub write-none : {n : ℕ} → isRunning running ≡ true → sheetList capacity cells count ≡ refuses n → listLeft running buffer n 0 ≡ sheetWritten running payload cells count buffer
+    pub write-none : {n : ℕ} → isRunning running ≡ true → sheetList capacity cells count ≡ refuses n → listLeft running buffer n 0 ≡ sheetWritten rules running payload cells count buffer
     unfolding sheetWritten
     write-none v e = rw (v, e)
 
     pub write-list : {h : Held} → isRunning running ≡ true → sheetList capacity cells count ≡ gives h
-        → writeList anyRules capacity running payload (h .records) (h .count) buffer ≡ sheetWritten running payload cells count buffer
+        → writeList rules capacity running payload (h .records) (h .count) buffer ≡ sheetWritten rules running payload cells count buffer
     unfolding sheetWritten
     write-list v e = rw (v, e)
 

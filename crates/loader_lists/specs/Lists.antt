@@ -1,14 +1,14 @@
 -- What reading, measuring and writing lists leave the caller with: a list is a sheet, rows of ten numbers.
 use mathlib.Core.List.{List}
 use Prim.Native.Nat.{ℕ}
-use Rattle.smf.specs.Answer.{pick, Answer, gives, refuses}
+use Rattle.smf.specs.Answer.{pick, Answer, gives, refuses, Rules}
 use Rattle.smf.specs.Running.{isRunning}
 use Rattle.smf.specs.Write.{Written, put}
 use Rattle.smf.specs.Lists.{Stop, ended, full, stopped, ListAt, listAt, Held, ListAnswer, wrote, refusesAt, ListSize, unsized, sizeList, ListWritten, listLeft, writeList}
 use Rattle.track.specs.List.{capacity}
 use Rattle.sheet.specs.Sheet.{sheetOf}
 use Rattle.sheet_back.specs.SheetList.{sheetList}
-use Rattle.loader.specs.Entry.{flagged, anyRules}
+use Rattle.loader.specs.Entry.{fromBits}
 
 -- Reading
 
@@ -18,9 +18,9 @@ stopNumber ended = 0
 stopNumber full = 255
 stopNumber (stopped n) = n
 
--- the list at a place, by a flag
+-- the list at a place, by the bits of the rules
 abbrev pub listGiven : ℕ → ℕ → List ℕ → ℕ → ListAt
-listGiven strict running bytes at = listAt (flagged strict) capacity running bytes at
+listGiven bits running bytes at = listAt (fromBits bits) capacity running bytes at
 
 -- its rows, put into the cells from the first on; 20 where the cells are too few
 abbrev pub sheetPut : ListAt → List ℕ → Written
@@ -36,23 +36,23 @@ readAnswer l cells = readOr (stopNumber (l .stop)) (sheetPut l cells .answer)
 
 -- Writing
 
-abbrev pub sizeTaken : ℕ → List ℕ → Answer Held → ListSize
-sizeTaken running payload (gives h) = sizeList anyRules capacity running payload (h .records) (h .count)
-sizeTaken running payload (refuses n) = unsized running n 0
+abbrev pub sizeTaken : Rules → ℕ → List ℕ → Answer Held → ListSize
+sizeTaken rules running payload (gives h) = sizeList rules capacity running payload (h .records) (h .count)
+sizeTaken rules running payload (refuses n) = unsized running n 0
 
 -- how long the bytes of so many rows' events are; document 01: 1, 21, then the first illegal event; and between the two, of what the document does not have, 20 where the cells are too few for the count
-unfoldable pub sheetSize : ℕ → List ℕ → List ℕ → ℕ → ListSize
-sheetSize running payload cells count =
-    pick (isRunning running) (sizeTaken running payload (sheetList capacity cells count)) (unsized running 1 0)
+unfoldable pub sheetSize : Rules → ℕ → List ℕ → List ℕ → ℕ → ListSize
+sheetSize rules running payload cells count =
+    pick (isRunning running) (sizeTaken rules running payload (sheetList capacity cells count)) (unsized running 1 0)
 
-abbrev pub writtenTaken : ℕ → List ℕ → List ℕ → Answer Held → ListWritten
-writtenTaken running payload buffer (gives h) = writeList anyRules capacity running payload (h .records) (h .count) buffer
-writtenTaken running payload buffer (refuses n) = listLeft running buffer n 0
+abbrev pub writtenTaken : Rules → ℕ → List ℕ → List ℕ → Answer Held → ListWritten
+writtenTaken rules running payload buffer (gives h) = writeList rules capacity running payload (h .records) (h .count) buffer
+writtenTaken rules running payload buffer (refuses n) = listLeft running buffer n 0
 
 -- what writing so many rows' events leaves; document 01: in that order, then 20 where there is no room
-unfoldable pub sheetWritten : ℕ → List ℕ → List ℕ → ℕ → List ℕ → ListWritten
-sheetWritten running payload cells count buffer =
-    pick (isRunning running) (writtenTaken running payload buffer (sheetList capacity cells count)) (listLeft running buffer 1 0)
+unfoldable pub sheetWritten : Rules → ℕ → List ℕ → List ℕ → ℕ → List ℕ → ListWritten
+sheetWritten rules running payload cells count buffer =
+    pick (isRunning running) (writtenTaken rules running payload buffer (sheetList capacity cells count)) (listLeft running buffer 1 0)
 
 -- the answer: 0 where it is accepted, else the refusal's number
 abbrev pub numberAnswered : ListAnswer → ℕ

@@ -30,19 +30,19 @@ pub extern "C" fn apk_list_read(
     bytes: &[u8],
     at: usize,
     running: u8,
-    strict: u8,
+    bits: u8,
     rows: &mut [u64],
     count: &mut usize,
     place: &mut usize,
     after: &mut u8,
 ) -> u8
-    ensures answer { λ r. ⌜ r ≡ readAnswer (listGiven strict running (now (bytes .entry)) at) (now (rows .entry)) ⌝ }
-    ensures rows { λ r. ⌜ now (rows .exit) ≡ sheetPut (listGiven strict running (now (bytes .entry)) at) (now (rows .entry)) .buffer ⌝ }
-    ensures count { λ r. ⌜ now (count .exit) ≡ leaves (λ (n : ℕ). length (listGiven strict running (now (bytes .entry)) at .events)) (sheetPut (listGiven strict running (now (bytes .entry)) at) (now (rows .entry)) .answer) (now (count .entry)) ⌝ }
-    ensures place { λ r. ⌜ now (place .exit) ≡ leaves (λ (n : ℕ). listGiven strict running (now (bytes .entry)) at .place) (sheetPut (listGiven strict running (now (bytes .entry)) at) (now (rows .entry)) .answer) (now (place .entry)) ⌝ }
-    ensures after { λ r. ⌜ now (after .exit) ≡ leaves (λ (n : ℕ). listGiven strict running (now (bytes .entry)) at .running) (sheetPut (listGiven strict running (now (bytes .entry)) at) (now (rows .entry)) .answer) (now (after .entry)) ⌝ }
+    ensures answer { λ r. ⌜ r ≡ readAnswer (listGiven bits running (now (bytes .entry)) at) (now (rows .entry)) ⌝ }
+    ensures rows { λ r. ⌜ now (rows .exit) ≡ sheetPut (listGiven bits running (now (bytes .entry)) at) (now (rows .entry)) .buffer ⌝ }
+    ensures count { λ r. ⌜ now (count .exit) ≡ leaves (λ (n : ℕ). length (listGiven bits running (now (bytes .entry)) at .events)) (sheetPut (listGiven bits running (now (bytes .entry)) at) (now (rows .entry)) .answer) (now (count .entry)) ⌝ }
+    ensures place { λ r. ⌜ now (place .exit) ≡ leaves (λ (n : ℕ). listGiven bits running (now (bytes .entry)) at .place) (sheetPut (listGiven bits running (now (bytes .entry)) at) (now (rows .entry)) .answer) (now (place .entry)) ⌝ }
+    ensures after { λ r. ⌜ now (after .exit) ≡ leaves (λ (n : ℕ). listGiven bits running (now (bytes .entry)) at .running) (sheetPut (listGiven bits running (now (bytes .entry)) at) (now (rows .entry)) .answer) (now (after .entry)) ⌝ }
 {
-    match read_rows(bytes, at, Running { status: running }, rules(strict), rows) {
+    match read_rows(bytes, at, Running { status: running }, rules(bits), rows) {
         ReadRows::Refused(refusal) => refusal.number(),
         ReadRows::Rows(read) => {
             *count = read.count;

@@ -6,22 +6,24 @@ ghost use lib.ListN.{length};
 ghost use Rattle.smf.specs.Write.{over};
 ghost use Rattle.smf.specs.Event.{mapEvent, bytesOf};
 ghost use Rattle.smf.specs.Lists.{RecordsLegal, check, encodeList, sizeChecked};
+ghost use Rattle.rules.specs.Rules.{rulesOf};
 ghost use Rattle.track.specs.List.{capacity};
 ghost use Rattle.sheet.specs.Sheet.{width};
 ghost use Rattle.sheet_back.specs.SheetList.{rowAt, sheetEvents};
 ghost use Rattle.lengths.specs.Lengths.{sizeSaid};
 ghost use Rattle.compose.specs.Written.{wroteList};
-ghost use Rattle.loader.specs.Entry.{anyRules};
+ghost use Rattle.loader.specs.Entry.{fromBits};
 ghost use Rattle.loader_lists.specs.Lists.{sheetSize, sheetWritten, numberAnswered, lengthLeft, indexLeft};
 use compose::WroteList;
 use lengths::ListLength;
 use lengths::ListRefused;
-use loader::any_rules;
+use loader::rules;
 use measure::length::EventLength;
 use measure::length::Size;
 use refusal::Refusal;
 use rows_out::measure_row;
 use rows_out::put_row;
+use rules::Rules;
 use rules::Running;
 use sheet::WIDTH;
 use sheet_back::row_at;
@@ -36,11 +38,16 @@ fn row_of(rows: &[u64], index: usize) -> [u64; 10]
 }
 
 // Of rows that are there, and no more than a list holds.
-fn measure_rows(rows: &[u64], count: usize, payload: &[u8], running: Running) -> ListLength
+fn measure_rows(
+    rows: &[u64],
+    count: usize,
+    payload: &[u8],
+    running: Running,
+    rules: Rules,
+) -> ListLength
     requires { ⌜ (count ≤ capacity) × (count * width ≤ length (now rows)) ⌝ }
-    ensures { λ r. ⌜ sizeSaid (running .status) r ≡ sizeChecked (running .status) (check anyRules (now (payload .entry)) 0 (sheetEvents count (now (rows .entry)))) ⌝ }
+    ensures { λ r. ⌜ sizeSaid (running .status) r ≡ sizeChecked (running .status) (check (rulesOf rules) (now (payload .entry)) 0 (sheetEvents count (now (rows .entry)))) ⌝ }
 {
-    let rules = any_rules();
     let mut length: usize = 0;
     let mut status = running.status;
     let mut index: usize = 0;
@@ -70,8 +77,14 @@ fn refused(refusal: Refusal) -> ListLength
 }
 
 // The count is looked at before the cells, and both before the rows.
-fn sheet_length(rows: &[u64], count: usize, payload: &[u8], running: Running) -> ListLength
-    ensures { λ r. ⌜ sizeSaid (running .status) r ≡ sheetSize (running .status) (now (payload .entry)) (now (rows .entry)) count ⌝ }
+fn sheet_length(
+    rows: &[u64],
+    count: usize,
+    payload: &[u8],
+    running: Running,
+    rules: Rules,
+) -> ListLength
+    ensures { λ r. ⌜ sizeSaid (running .status) r ≡ sheetSize (rulesOf rules) (running .status) (now (payload .entry)) (now (rows .entry)) count ⌝ }
 {
     if !running.is_valid() {
         return refused(Refusal::RunningStatus);
@@ -82,7 +95,7 @@ fn sheet_length(rows: &[u64], count: usize, payload: &[u8], running: Running) ->
     if rows.len() < count * WIDTH {
         return refused(Refusal::NoRoom);
     }
-    measure_rows(rows, count, payload, running)
+    measure_rows(rows, count, payload, running, rules)
 }
 
 // How many bytes the events of so many rows have from a running status, and the running status after them.
@@ -93,16 +106,23 @@ pub extern "C" fn apk_list_length(
     count: usize,
     payload: &[u8],
     running: u8,
+    bits: u8,
     length: &mut usize,
     after: &mut u8,
     index: &mut usize,
 ) -> u8
-    ensures answer { λ r. ⌜ r ≡ numberAnswered (sheetSize running (now (payload .entry)) (now (rows .entry)) count .answer) ⌝ }
-    ensures length { λ r. ⌜ now (length .exit) ≡ lengthLeft (sheetSize running (now (payload .entry)) (now (rows .entry)) count .answer) (now (length .entry)) ⌝ }
-    ensures after { λ r. ⌜ now (after .exit) ≡ sheetSize running (now (payload .entry)) (now (rows .entry)) count .running ⌝ }
-    ensures index { λ r. ⌜ now (index .exit) ≡ indexLeft (sheetSize running (now (payload .entry)) (now (rows .entry)) count .answer) (now (index .entry)) ⌝ }
+    ensures answer { λ r. ⌜ r ≡ numberAnswered (sheetSize (fromBits bits) running (now (payload .entry)) (now (rows .entry)) count .answer) ⌝ }
+    ensures length { λ r. ⌜ now (length .exit) ≡ lengthLeft (sheetSize (fromBits bits) running (now (payload .entry)) (now (rows .entry)) count .answer) (now (length .entry)) ⌝ }
+    ensures after { λ r. ⌜ now (after .exit) ≡ sheetSize (fromBits bits) running (now (payload .entry)) (now (rows .entry)) count .running ⌝ }
+    ensures index { λ r. ⌜ now (index .exit) ≡ indexLeft (sheetSize (fromBits bits) running (now (payload .entry)) (now (rows .entry)) count .answer) (now (index .entry)) ⌝ }
 {
-    match sheet_length(rows, count, payload, Running { status: running }) {
+    match sheet_length(
+        rows,
+        count,
+        payload,
+        Running { status: running },
+        rules(bits),
+    ) {
         ListLength::Refused(n) => {
             let refusal = n.refusal;
             *after = running;
@@ -118,11 +138,17 @@ pub extern "C" fn apk_list_length(
 }
 
 // One event behind the other, of rows that are there, legal and have room.
-fn put_rows(rows: &[u64], count: usize, payload: &[u8], running: Running, out: &mut [u8])
-    requires { ⌜ (count ≤ capacity) × (count * width ≤ length (now rows)) × RecordsLegal anyRules (now payload) (sheetEvents count (now rows)) × (length (encodeList (running .status) (map (mapEvent (bytesOf (now payload))) (sheetEvents count (now rows)))) ≤ length (now out)) ⌝ }
+fn put_rows(
+    rows: &[u64],
+    count: usize,
+    payload: &[u8],
+    running: Running,
+    rules: Rules,
+    out: &mut [u8],
+)
+    requires { ⌜ (count ≤ capacity) × (count * width ≤ length (now rows)) × RecordsLegal (rulesOf rules) (now payload) (sheetEvents count (now rows)) × (length (encodeList (running .status) (map (mapEvent (bytesOf (now payload))) (sheetEvents count (now rows)))) ≤ length (now out)) ⌝ }
     ensures { λ r. ⌜ now (out .exit) ≡ over (encodeList (running .status) (map (mapEvent (bytesOf (now (payload .entry)))) (sheetEvents count (now (rows .entry))))) (now (out .entry)) 0 ⌝ }
 {
-    let rules = any_rules();
     let mut place: usize = 0;
     let mut status = running.status;
     let mut index: usize = 0;
@@ -141,11 +167,12 @@ fn sheet_write(
     count: usize,
     payload: &[u8],
     running: Running,
+    rules: Rules,
     out: &mut [u8],
 ) -> WroteList
-    ensures { λ r. ⌜ wroteList (running .status) r (now (out .exit)) ≡ sheetWritten (running .status) (now (payload .entry)) (now (rows .entry)) count (now (out .entry)) ⌝ }
+    ensures { λ r. ⌜ wroteList (running .status) r (now (out .exit)) ≡ sheetWritten (rulesOf rules) (running .status) (now (payload .entry)) (now (rows .entry)) count (now (out .entry)) ⌝ }
 {
-    match sheet_length(rows, count, payload, running) {
+    match sheet_length(rows, count, payload, running, rules) {
         ListLength::Refused(n) => WroteList::Refused(n),
         ListLength::Length(size) => {
             if out.len() < size.length {
@@ -154,7 +181,7 @@ fn sheet_write(
                     index: 0,
                 });
             }
-            put_rows(rows, count, payload, running, out);
+            put_rows(rows, count, payload, running, rules, out);
             WroteList::Length(size)
         }
     }
@@ -169,18 +196,26 @@ pub extern "C" fn apk_list_write(
     count: usize,
     payload: &[u8],
     running: u8,
+    bits: u8,
     out: &mut [u8],
     length: &mut usize,
     after: &mut u8,
     index: &mut usize,
 ) -> u8
-    ensures answer { λ r. ⌜ r ≡ numberAnswered (sheetWritten running (now (payload .entry)) (now (rows .entry)) count (now (out .entry)) .answer) ⌝ }
-    ensures buffer { λ r. ⌜ now (out .exit) ≡ sheetWritten running (now (payload .entry)) (now (rows .entry)) count (now (out .entry)) .buffer ⌝ }
-    ensures length { λ r. ⌜ now (length .exit) ≡ lengthLeft (sheetWritten running (now (payload .entry)) (now (rows .entry)) count (now (out .entry)) .answer) (now (length .entry)) ⌝ }
-    ensures after { λ r. ⌜ now (after .exit) ≡ sheetWritten running (now (payload .entry)) (now (rows .entry)) count (now (out .entry)) .running ⌝ }
-    ensures index { λ r. ⌜ now (index .exit) ≡ indexLeft (sheetWritten running (now (payload .entry)) (now (rows .entry)) count (now (out .entry)) .answer) (now (index .entry)) ⌝ }
+    ensures answer { λ r. ⌜ r ≡ numberAnswered (sheetWritten (fromBits bits) running (now (payload .entry)) (now (rows .entry)) count (now (out .entry)) .answer) ⌝ }
+    ensures buffer { λ r. ⌜ now (out .exit) ≡ sheetWritten (fromBits bits) running (now (payload .entry)) (now (rows .entry)) count (now (out .entry)) .buffer ⌝ }
+    ensures length { λ r. ⌜ now (length .exit) ≡ lengthLeft (sheetWritten (fromBits bits) running (now (payload .entry)) (now (rows .entry)) count (now (out .entry)) .answer) (now (length .entry)) ⌝ }
+    ensures after { λ r. ⌜ now (after .exit) ≡ sheetWritten (fromBits bits) running (now (payload .entry)) (now (rows .entry)) count (now (out .entry)) .running ⌝ }
+    ensures index { λ r. ⌜ now (index .exit) ≡ indexLeft (sheetWritten (fromBits bits) running (now (payload .entry)) (now (rows .entry)) count (now (out .entry)) .answer) (now (index .entry)) ⌝ }
 {
-    match sheet_write(rows, count, payload, Running { status: running }, out) {
+    match sheet_write(
+        rows,
+        count,
+        payload,
+        Running { status: running },
+        rules(bits),
+        out,
+    ) {
         WroteList::Refused(n) => {
             let refusal = n.refusal;
             *after = running;

@@ -8,11 +8,12 @@ ghost use Rattle.smf.specs.Seconds.{rateFloat, secondsOf};
 ghost use Rattle.smf.specs.Smpte.{toRate, rateOfCode, codeOfRate, toTime, timeOf, encodeTime, position};
 ghost use Rattle.smf.specs.Width.{lowBits};
 ghost use Rattle.smpte.specs.Smpte.{triedSmpteTime};
-ghost use Rattle.loader.specs.Entry.{answered, leaves};
+ghost use Rattle.loader.specs.Entry.{fromBits, answered, leaves};
 ghost use Rattle.loader_smpte.specs.Smpte.{timeGiven, sixOf};
 use header::fps::Fps;
 use header::fps::TriedFps;
 use int::u2;
+use loader::rules;
 use smpte::AskedPosition;
 use smpte::AskedSecond;
 use smpte::EncodedSmpteTime;
@@ -98,12 +99,21 @@ pub extern "C" fn apk_smpte_new(
     frame: u8,
     subframe: u8,
     rate: u8,
+    bits: u8,
 ) -> u8
-    ensures { λ r. ⌜ r ≡ answered (andThen (timeGiven hour minute second frame subframe rate) toTime) ⌝ }
+    ensures { λ r. ⌜ r ≡ answered (andThen (timeGiven hour minute second frame subframe rate) (toTime (fromBits bits))) ⌝ }
 {
     match Fps::from_int(rate) {
         TriedFps::Refused(refusal) => refusal.number(),
-        TriedFps::Made(fps) => match SmpteTime::new(hour, minute, second, frame, subframe, fps) {
+        TriedFps::Made(fps) => match SmpteTime::new(
+            hour,
+            minute,
+            second,
+            frame,
+            subframe,
+            fps,
+            rules(bits),
+        ) {
             TriedSmpteTime::Refused(refusal) => refusal.number(),
             TriedSmpteTime::Made(_) => 0,
         },
@@ -118,12 +128,13 @@ pub extern "C" fn apk_smpte_read(
     second: u8,
     frame: u8,
     subframe: u8,
+    bits: u8,
     time: &mut [u8; 6],
 ) -> u8
-    ensures answer { λ r. ⌜ r ≡ answered (timeOf first minute second frame subframe) ⌝ }
-    ensures time { λ r. ⌜ now (time .exit) ≡ leaves sixOf (timeOf first minute second frame subframe) (now (time .entry)) ⌝ }
+    ensures answer { λ r. ⌜ r ≡ answered (timeOf (fromBits bits) first minute second frame subframe) ⌝ }
+    ensures time { λ r. ⌜ now (time .exit) ≡ leaves sixOf (timeOf (fromBits bits) first minute second frame subframe) (now (time .entry)) ⌝ }
 {
-    match SmpteTime::read([first, minute, second, frame, subframe]) {
+    match SmpteTime::read([first, minute, second, frame, subframe], rules(bits)) {
         TriedSmpteTime::Refused(refusal) => refusal.number(),
         TriedSmpteTime::Made(found) => {
             *time = [
@@ -148,14 +159,15 @@ pub extern "C" fn apk_smpte_encode(
     frame: u8,
     subframe: u8,
     rate: u8,
+    bits: u8,
     bytes: &mut [u8; 5],
 ) -> u8
-    ensures answer { λ r. ⌜ r ≡ answered (andThen (timeGiven hour minute second frame subframe rate) encodeTime) ⌝ }
-    ensures bytes { λ r. ⌜ now (bytes .exit) ≡ leaves (λ (b : List ℕ). b) (andThen (timeGiven hour minute second frame subframe rate) encodeTime) (now (bytes .entry)) ⌝ }
+    ensures answer { λ r. ⌜ r ≡ answered (andThen (timeGiven hour minute second frame subframe rate) (encodeTime (fromBits bits))) ⌝ }
+    ensures bytes { λ r. ⌜ now (bytes .exit) ≡ leaves (λ (b : List ℕ). b) (andThen (timeGiven hour minute second frame subframe rate) (encodeTime (fromBits bits))) (now (bytes .entry)) ⌝ }
 {
     match time_given(hour, minute, second, frame, subframe, rate) {
         TriedSmpteTime::Refused(refusal) => refusal.number(),
-        TriedSmpteTime::Made(time) => match time.encode() {
+        TriedSmpteTime::Made(time) => match time.encode(rules(bits)) {
             EncodedSmpteTime::Refused(refusal) => refusal.number(),
             EncodedSmpteTime::Bytes(first, minute, second, frame, subframe) => {
                 *bytes = [first, minute, second, frame, subframe];
@@ -174,14 +186,15 @@ pub extern "C" fn apk_smpte_second_f32(
     frame: u8,
     subframe: u8,
     rate: u8,
+    bits: u8,
     seconds: &mut f32,
 ) -> u8
-    ensures answer { λ r. ⌜ r ≡ answered (andThen (timeGiven hour minute second frame subframe rate) secondsOf) ⌝ }
-    ensures seconds { λ r. ⌜ now (seconds .exit) ≡ leaves (λ (x : Float). x) (andThen (timeGiven hour minute second frame subframe rate) secondsOf) (now (seconds .entry)) ⌝ }
+    ensures answer { λ r. ⌜ r ≡ answered (andThen (timeGiven hour minute second frame subframe rate) (secondsOf (fromBits bits))) ⌝ }
+    ensures seconds { λ r. ⌜ now (seconds .exit) ≡ leaves (λ (x : Float). x) (andThen (timeGiven hour minute second frame subframe rate) (secondsOf (fromBits bits))) (now (seconds .entry)) ⌝ }
 {
     match time_given(hour, minute, second, frame, subframe, rate) {
         TriedSmpteTime::Refused(refusal) => refusal.number(),
-        TriedSmpteTime::Made(time) => match time.second_f32() {
+        TriedSmpteTime::Made(time) => match time.second_f32(rules(bits)) {
             AskedSecond::Refused(refusal) => refusal.number(),
             AskedSecond::Is(found) => {
                 *seconds = found;
@@ -200,14 +213,15 @@ pub extern "C" fn apk_smpte_position(
     frame: u8,
     subframe: u8,
     rate: u8,
+    bits: u8,
     subframes: &mut u32,
 ) -> u8
-    ensures answer { λ r. ⌜ r ≡ answered (andThen (timeGiven hour minute second frame subframe rate) position) ⌝ }
-    ensures subframes { λ r. ⌜ now (subframes .exit) ≡ leaves (λ (n : ℕ). n) (andThen (timeGiven hour minute second frame subframe rate) position) (now (subframes .entry)) ⌝ }
+    ensures answer { λ r. ⌜ r ≡ answered (andThen (timeGiven hour minute second frame subframe rate) (position (fromBits bits))) ⌝ }
+    ensures subframes { λ r. ⌜ now (subframes .exit) ≡ leaves (λ (n : ℕ). n) (andThen (timeGiven hour minute second frame subframe rate) (position (fromBits bits))) (now (subframes .entry)) ⌝ }
 {
     match time_given(hour, minute, second, frame, subframe, rate) {
         TriedSmpteTime::Refused(refusal) => refusal.number(),
-        TriedSmpteTime::Made(time) => match time.position() {
+        TriedSmpteTime::Made(time) => match time.position(rules(bits)) {
             AskedPosition::Refused(refusal) => refusal.number(),
             AskedPosition::Is(found) => {
                 *subframes = found;

@@ -28,22 +28,22 @@ use Rattle.measure.specs.Length.{Size, size, rawSize, eventSize}
 use Rattle.measure.proofs.ChannelBytes.{channel-after}
 
 -- a channel message within its widths
-pub fits-raw : (delta channel : ℕ) (m : Message) → channelFits delta channel (channelOf channel m) ≡ true → channelRaw (channelOf channel m) ≡ rawMessage channel m
+pub fits-raw : (rules : Rules) (delta channel : ℕ) (m : Message) → channelFits delta channel (channelOf channel m) ≡ true → channelRaw (channelOf channel m) ≡ rawMessage channel m
 unfolding channelFits
-fits-raw delta channel m f =
+fits-raw rules delta channel m f =
     let c = channelOf channel m in
     let a = both (ltb delta (2 ^ 28)) (ltb channel 16 && (ltb (c .a) 128 && ltb (c .b) 128)) f in
     let b = both (ltb channel 16) (ltb (c .a) 128 && ltb (c .b) 128) (a .1) in
-    channel-raw channel m (ltb-true _ _ (b .0)) (data-fit channel m ∙ b .1)
+    channel-raw rules channel m (ltb-true _ _ (b .0)) (data-fit rules channel m ∙ b .1)
 
 -- a meta message within its widths, and one that is not
-fitting : (m : Meta Span) → metaFits m ≡ true → metaForm m ≡ shapeOf m
+fitting : (rules : Rules) (m : Meta Span) → metaFits rules m ≡ true → metaForm rules m ≡ shapeOf m
 unfolding metaForm
-fitting m f = rw f
+fitting rules m f = rw f
 
-unfitting : (bytes : List ℕ) (delta : ℕ) (m : Meta Span) → metaFits m ≡ false → eventAllowed bytes delta (metaForm m) ≡ refuses 18
+unfitting : (rules : Rules) (bytes : List ℕ) (delta : ℕ) (m : Meta Span) → metaFits rules m ≡ false → eventAllowed rules bytes delta (metaForm rules m) ≡ refuses 18
 unfolding metaForm eventAllowed formAllowed
-unfitting bytes delta m f = rw f (by-test (ltb delta (2 ^ 28)) (λ e. rw e) (λ e. rw e))
+unfitting rules bytes delta m f = rw f (by-test (ltb delta (2 ^ 28)) (λ e. rw e) (λ e. rw e))
 
 module _ (rules : Rules) (running : ℕ) (bytes : List ℕ) (delta : ℕ) where
   -- of a channel message
@@ -54,11 +54,11 @@ module _ (rules : Rules) (running : ℕ) (bytes : List ℕ) (delta : ℕ) where
   midi-bytes channel m =
       bytes-settled rules running bytes (event delta (midi channel m))
       ∙ rw (midi-settled rules bytes delta channel m)
-      (by-test (channelFits delta channel (channelOf channel m)) (λ f. rw (f, fits-raw delta channel m f)) (λ f. rw f))
+      (by-test (channelFits delta channel (channelOf channel m)) (λ f. rw (f, fits-raw rules delta channel m f)) (λ f. rw f))
 
   -- of a form
   abbrev formEvent : Form → Answer (List ℕ)
-  formEvent form = andThen (eventAllowed bytes delta form) (λ u. gives (encodeNumber delta ++ formBytes bytes form))
+  formEvent form = andThen (eventAllowed rules bytes delta form) (λ u. gives (encodeNumber delta ++ formBytes bytes form))
 
   pub sys-ex-bytes : (span : Span) → eventBytes rules running bytes (event delta (sysEx span)) ≡ formEvent (System 0xF0 (rangeOf span))
   unfolding encodeEvent encodeRawEvent encodeRaw mapEvent mapKind rawOf formBytes
@@ -83,12 +83,12 @@ module _ (rules : Rules) (running : ℕ) (bytes : List ℕ) (delta : ℕ) where
   shape-bytes (sequencerSpecific p) = refl
   shape-bytes (unknown t p) = refl
 
-  pub meta-bytes : (m : Meta Span) → eventBytes rules running bytes (event delta (meta m)) ≡ formEvent (metaForm m)
+  pub meta-bytes : (m : Meta Span) → eventBytes rules running bytes (event delta (meta m)) ≡ formEvent (metaForm rules m)
   unfolding encodeEvent encodeRawEvent mapEvent mapKind rawOf
   meta-bytes m =
       bytes-settled rules running bytes (event delta (meta m))
       ∙ rw (meta-settled rules bytes delta m, shape-bytes m)
-      (by-test (metaFits m) (λ f. rw (fitting m f)) (λ f. rw (unfitting bytes delta m f)))
+      (by-test (metaFits rules m) (λ f. rw (fitting rules m f)) (λ f. rw (unfitting rules bytes delta m f)))
 
 -- the running status after a meta message
 pub meta-after : (m : Meta (List ℕ)) → runningAfter (rawMeta m) ≡ 0
@@ -120,12 +120,12 @@ module _ (rules : Rules) (running : ℕ) (bytes : List ℕ) (delta : ℕ) where
   unfolding eventSize mapKind rawOf
   midi-size channel m =
       rw (midi-bytes rules running bytes delta channel m)
-      (by-test (channelFits delta channel (channelOf channel m)) (λ f. rw (f, fits-raw delta channel m f)) (λ f. rw f))
+      (by-test (channelFits delta channel (channelOf channel m)) (λ f. rw (f, fits-raw rules delta channel m f)) (λ f. rw f))
 
   -- and anything else
   abbrev formSize : Form → Answer Size
   formSize form =
-      andThen (andThen (eventAllowed bytes delta form) (λ u. gives (length (encodeNumber delta) + length (formBytes bytes form))))
+      andThen (andThen (eventAllowed rules bytes delta form) (λ u. gives (length (encodeNumber delta) + length (formBytes bytes form))))
       (λ n. gives (size n 0))
 
   form-size : (k : Kind Span) (form : Form) → eventBytes rules running bytes (event delta k) ≡ formEvent rules running bytes delta form
@@ -133,7 +133,7 @@ module _ (rules : Rules) (running : ℕ) (bytes : List ℕ) (delta : ℕ) where
   unfolding eventSize
   form-size k form e z =
       rw (e, z)
-      (both-made (λ (bs : List ℕ). size (length bs) 0) (λ n. size n 0) (encodeNumber delta ++ formBytes bytes form) (length (encodeNumber delta) + length (formBytes bytes form)) (eventAllowed bytes delta form)
+      (both-made (λ (bs : List ℕ). size (length bs) 0) (λ n. size n 0) (encodeNumber delta ++ formBytes bytes form) (length (encodeNumber delta) + length (formBytes bytes form)) (eventAllowed rules bytes delta form)
       (rw length-append))
 
   pub sys-ex-size : (span : Span) → eventSize rules running bytes (event delta (sysEx span)) ≡ formSize (System 0xF0 (rangeOf span))
@@ -144,6 +144,6 @@ module _ (rules : Rules) (running : ℕ) (bytes : List ℕ) (delta : ℕ) where
   unfolding mapKind rawOf
   escape-size span = form-size (escape span) (System 0xF7 (rangeOf span)) (escape-bytes rules running bytes delta span) refl
 
-  pub meta-size : (m : Meta Span) → eventSize rules running bytes (event delta (meta m)) ≡ formSize (metaForm m)
+  pub meta-size : (m : Meta Span) → eventSize rules running bytes (event delta (meta m)) ≡ formSize (metaForm rules m)
   unfolding mapKind rawOf
-  meta-size m = form-size (meta m) (metaForm m) (meta-bytes rules running bytes delta m) (meta-after (mapMeta (bytesOf bytes) m))
+  meta-size m = form-size (meta m) (metaForm rules m) (meta-bytes rules running bytes delta m) (meta-after (mapMeta (bytesOf bytes) m))

@@ -8,7 +8,7 @@ use lib.Dec.{leb, ltb}
 use lib.ListN.{length, take, drop, length-drop}
 use lib.Seq.{length-take-le}
 use borrow.Author.Tests.{leb-true, ltb-true}
-use Rattle.smf.specs.Answer.{pick, Answer, gives, refuses, andThen}
+use Rattle.smf.specs.Answer.{pick, Answer, gives, refuses, andThen, Rules}
 use Rattle.smf.specs.Place.{Span}
 use Rattle.smf.specs.Number.{encodeNumber}
 use Rattle.smf.specs.Payload.{encodePayload}
@@ -35,10 +35,10 @@ load-inside bytes span e =
     let b = passed (ltb (span .length) (2 ^ 28)) (gives tt) 22 (a .1) in
     record { within = leb-true _ _ (a .0); short = ltb-true _ _ (b .0) }
 
-pub unknown-load : (bytes : List ℕ) (t : ℕ) (span : Span) → unknownAllowed bytes t span ≡ gives tt → loadAllowed bytes span ≡ gives tt
+pub unknown-load : (rules : Rules) (bytes : List ℕ) (t : ℕ) (span : Span) → unknownAllowed rules bytes t span ≡ gives tt → loadAllowed bytes span ≡ gives tt
 unfolding unknownAllowed
-unknown-load bytes t span e = by (loadAllowed bytes span) refl e where
-  by : (a : Answer (Unit {0})) → loadAllowed bytes span ≡ a → andThen a (λ x. pick (isNamed t (span .length)) (refuses 23) (gives (tt {0}))) ≡ gives tt → loadAllowed bytes span ≡ gives tt
+unknown-load rules bytes t span e = by (loadAllowed bytes span) refl e where
+  by : (a : Answer (Unit {0})) → loadAllowed bytes span ≡ a → andThen a (λ x. pick (isNamed rules t (span .length)) (refuses 23) (gives (tt {0}))) ≡ gives tt → loadAllowed bytes span ≡ gives tt
   by (gives u) h g = h
   by (refuses n) h g = let z : _≡_ {A = ℕ} 0 1 = cc in absurd (omega arith)
 
@@ -57,31 +57,31 @@ own-inside n e = leb-true n 5 (passed (leb n 5) (gives tt) 19 e .0)
 own-length : (own : Own) → own .n ≤ 5 → length (encodePayload (ownBytes own)) ≡ loadLength (own .n)
 own-length own h = payload-size (ownBytes own) [] 0 (own .n) (length-take-le (own .n) (ownList own) h)
 
-module _ (bytes : List ℕ) where
-  pub form-length : (f : Form) → formAllowed bytes f ≡ gives tt → length (formBytes bytes f) ≡ formLength f
+module _ (rules : Rules) (bytes : List ℕ) where
+  pub form-length : (f : Form) → formAllowed rules bytes f ≡ gives tt → length (formBytes bytes f) ≡ formLength f
   unfolding formAllowed formBytes formLength
   form-length AboveWidth e = refl
   form-length (System status load) e = omega (arith, load-length bytes (spanOf load) (load-inside bytes (spanOf load) e))
   form-length (Typed t load) e = omega (arith, load-length bytes (spanOf load) (load-inside bytes (spanOf load) e))
-  form-length (Unknown t load) e = omega (arith, load-length bytes (spanOf load) (load-inside bytes (spanOf load) (unknown-load bytes t (spanOf load) e)))
+  form-length (Unknown t load) e = omega (arith, load-length bytes (spanOf load) (load-inside bytes (spanOf load) (unknown-load rules bytes t (spanOf load) e)))
   form-length (Fixed t own) e = omega (arith, own-length own (own-inside (own .n) e))
 
-  pub form-short : (f : Form) → formAllowed bytes f ≡ gives tt → Short f
+  pub form-short : (f : Form) → formAllowed rules bytes f ≡ gives tt → Short f
   unfolding Short formAllowed
   form-short AboveWidth e = tt
   form-short (System status load) e = load-inside bytes (spanOf load) e .short
   form-short (Typed t load) e = load-inside bytes (spanOf load) e .short
-  form-short (Unknown t load) e = load-inside bytes (spanOf load) (unknown-load bytes t (spanOf load) e) .short
+  form-short (Unknown t load) e = load-inside bytes (spanOf load) (unknown-load rules bytes t (spanOf load) e) .short
   form-short (Fixed t own) e = omega (arith, own-inside (own .n) e)
 
 -- what is behind a delta is legal where the whole is, and the delta short
-pub event-form : (bytes : List ℕ) (delta : ℕ) (f : Form) → eventAllowed bytes delta f ≡ gives tt → formAllowed bytes f ≡ gives tt
+pub event-form : (rules : Rules) (bytes : List ℕ) (delta : ℕ) (f : Form) → eventAllowed rules bytes delta f ≡ gives tt → formAllowed rules bytes f ≡ gives tt
 unfolding eventAllowed
-event-form bytes delta f e = passed (ltb delta (2 ^ 28)) (formAllowed bytes f) 18 e .1
+event-form rules bytes delta f e = passed (ltb delta (2 ^ 28)) (formAllowed rules bytes f) 18 e .1
 
-pub event-delta : (bytes : List ℕ) (delta : ℕ) (f : Form) → eventAllowed bytes delta f ≡ gives tt → delta < 2 ^ 28
+pub event-delta : (rules : Rules) (bytes : List ℕ) (delta : ℕ) (f : Form) → eventAllowed rules bytes delta f ≡ gives tt → delta < 2 ^ 28
 unfolding eventAllowed
-event-delta bytes delta f e = ltb-true _ _ (passed (ltb delta (2 ^ 28)) (formAllowed bytes f) 18 e .0)
+event-delta rules bytes delta f e = ltb-true _ _ (passed (ltb delta (2 ^ 28)) (formAllowed rules bytes f) 18 e .0)
 
 -- and such a form has not many bytes
 pub form-few : (f : Form) → Short f → formLength f ≤ 2 ^ 28 + 6

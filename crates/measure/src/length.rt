@@ -73,14 +73,21 @@ pub fn measure(event: TrackEvent, running: Running, rules: Rules, bytes: &[u8]) 
         TrackEventKind::SysEx(load) => cleared(form_measure(
             delta,
             Form::System(0xF0, load),
+            rules,
             bytes,
         )),
         TrackEventKind::Escape(load) => cleared(form_measure(
             delta,
             Form::System(0xF7, load),
+            rules,
             bytes,
         )),
-        TrackEventKind::Meta(message) => cleared(form_measure(delta, meta_form(message), bytes)),
+        TrackEventKind::Meta(message) => cleared(form_measure(
+            delta,
+            meta_form(message, rules),
+            rules,
+            bytes,
+        )),
     }
 }
 

@@ -5,6 +5,7 @@ ghost use lib.ListN.{length};
 ghost use Rattle.smf.specs.Answer.{pick, gives, andThen};
 ghost use Rattle.smf.specs.Number.{encodeNumber};
 ghost use Rattle.smf.specs.Wire.{encodeRawEvent, rawEvent};
+ghost use Rattle.rules.specs.Rules.{rulesOf};
 ghost use Rattle.shape.specs.Channel.{channelRaw};
 ghost use Rattle.legal.specs.Legal.{eventAllowed};
 ghost use Rattle.measure.specs.Form.{formBytes, loadLength, formLength, Short};
@@ -13,6 +14,7 @@ use legal::Verdict;
 use legal::form_legality;
 use number::varlen::u28;
 use refusal::Refusal;
+use rules::Rules;
 use rules::Running;
 use shape::channel::Channel;
 use shape::form::Form;
@@ -62,10 +64,10 @@ fn form_length(form: Form) -> usize
 }
 
 // The delta, and what stands behind it.
-pub fn form_measure(delta: u28, form: Form, bytes: &[u8]) -> FormLength
-    ensures { λ r. ⌜ formLengthSaid r ≡ andThen (eventAllowed (now (bytes .entry)) (delta .0) form) (λ x. gives (length (encodeNumber (delta .0)) + length (formBytes (now (bytes .entry)) form))) ⌝ }
+pub fn form_measure(delta: u28, form: Form, rules: Rules, bytes: &[u8]) -> FormLength
+    ensures { λ r. ⌜ formLengthSaid r ≡ andThen (eventAllowed (rulesOf rules) (now (bytes .entry)) (delta .0) form) (λ x. gives (length (encodeNumber (delta .0)) + length (formBytes (now (bytes .entry)) form))) ⌝ }
 {
-    match form_legality(delta, form, bytes) {
+    match form_legality(delta, form, rules, bytes) {
         Verdict::Refused(refusal) => FormLength::Refused(refusal),
         Verdict::Legal => FormLength::Length(delta.varlen_length() + form_length(form)),
     }

@@ -144,7 +144,7 @@ fn smpte_offset(raw: &[u8], load: Range, rules: Rules) -> ReadMeta
         raw[start + 3],
         raw[start + 4],
     ];
-    match SmpteTime::read(bytes) {
+    match SmpteTime::read(bytes, rules) {
         TriedSmpteTime::Made(time) => message(MetaMessage::SmpteOffset(time), load),
         TriedSmpteTime::Refused(refusal) => ReadMeta::Refused(refusal),
     }

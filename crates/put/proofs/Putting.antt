@@ -72,14 +72,14 @@ module _ (running delta channel : ℕ) (c : Channel) (s : List ℕ) (at : ℕ) w
             rw (f, both-put (encodeNumber delta) (encodeRaw running (channelRaw c)) s at d h end e, channel-after running c)
 
 -- any other event
-module _ (bytes : List ℕ) (delta : ℕ) (form : Form) (s : List ℕ) (at : ℕ) where
+module _ (rules : Rules) (bytes : List ℕ) (delta : ℕ) (form : Form) (s : List ℕ) (at : ℕ) where
   abbrev pub formedPut : Place
-  formedPut = placed at (write (andThen (eventAllowed bytes delta form) (λ x. gives (encodeNumber delta ++ formBytes bytes form))) s at)
+  formedPut = placed at (write (andThen (eventAllowed rules bytes delta form) (λ x. gives (encodeNumber delta ++ formBytes bytes form))) s at)
 
-  pub formed-left : (n : ℕ) → eventAllowed bytes delta form ≡ refuses n → place at s ≡ formedPut
+  pub formed-left : (n : ℕ) → eventAllowed rules bytes delta form ≡ refuses n → place at s ≡ formedPut
   formed-left n e = rw e
 
-  module _ (ok : eventAllowed bytes delta form ≡ gives tt) where
+  module _ (ok : eventAllowed rules bytes delta form ≡ gives tt) where
     formed-length : length (encodeNumber delta ++ formBytes bytes form) ≡ length (encodeNumber delta) + length (formBytes bytes form)
     formed-length = length-append (encodeNumber delta) (formBytes bytes form)
 
@@ -95,21 +95,21 @@ module _ (bytes : List ℕ) (delta : ℕ) (form : Form) (s : List ℕ) (at : ℕ
           rw (ok, both-put (encodeNumber delta) (formBytes bytes form) s at d (omega (arith, formed-length)) end e, formed-length)
 
 -- what the length of a form says of it
-pub record Measured (bytes : List ℕ) (delta : ℕ) (form : Form) (n : ℕ) : Type 0 where
-  pub legal : eventAllowed bytes delta form ≡ gives tt
+pub record Measured (rules : Rules) (bytes : List ℕ) (delta : ℕ) (form : Form) (n : ℕ) : Type 0 where
+  pub legal : eventAllowed rules bytes delta form ≡ gives tt
   pub size : n ≡ length (encodeNumber delta) + length (formBytes bytes form)
 
-module _ (bytes : List ℕ) (delta : ℕ) (form : Form) (r : FormLength)
-    (says : formLengthSaid r ≡ andThen (eventAllowed bytes delta form) (λ x. gives (length (encodeNumber delta) + length (formBytes bytes form)))) where
-  pub is-measured : (n : ℕ) → r ≡ long.Length n → Measured bytes delta form n
-  is-measured n e = by (eventAllowed bytes delta form) refl (sym (ap formLengthSaid e) ∙ says) where
-    by : (u : Answer (Unit {0})) → eventAllowed bytes delta form ≡ u → gives n ≡ andThen u (λ x. gives (length (encodeNumber delta) + length (formBytes bytes form))) → Measured bytes delta form n
+module _ (rules : Rules) (bytes : List ℕ) (delta : ℕ) (form : Form) (r : FormLength)
+    (says : formLengthSaid r ≡ andThen (eventAllowed rules bytes delta form) (λ x. gives (length (encodeNumber delta) + length (formBytes bytes form)))) where
+  pub is-measured : (n : ℕ) → r ≡ long.Length n → Measured rules bytes delta form n
+  is-measured n e = by (eventAllowed rules bytes delta form) refl (sym (ap formLengthSaid e) ∙ says) where
+    by : (u : Answer (Unit {0})) → eventAllowed rules bytes delta form ≡ u → gives n ≡ andThen u (λ x. gives (length (encodeNumber delta) + length (formBytes bytes form))) → Measured rules bytes delta form n
     by (gives x) h k = record { legal = h; size = cc }
     by (refuses m) h k = let z : _≡_ {A = ℕ} 0 1 = cc in absurd (omega arith)
 
-  pub is-refused : (n : Refusal) → r ≡ long.Refused n → eventAllowed bytes delta form ≡ refuses (numberOf n)
-  is-refused n e = by (eventAllowed bytes delta form) refl (sym (ap formLengthSaid e) ∙ says) where
-    by : (u : Answer (Unit {0})) → eventAllowed bytes delta form ≡ u → refuses (numberOf n) ≡ andThen u (λ x. gives (length (encodeNumber delta) + length (formBytes bytes form))) → eventAllowed bytes delta form ≡ refuses (numberOf n)
+  pub is-refused : (n : Refusal) → r ≡ long.Refused n → eventAllowed rules bytes delta form ≡ refuses (numberOf n)
+  is-refused n e = by (eventAllowed rules bytes delta form) refl (sym (ap formLengthSaid e) ∙ says) where
+    by : (u : Answer (Unit {0})) → eventAllowed rules bytes delta form ≡ u → refuses (numberOf n) ≡ andThen u (λ x. gives (length (encodeNumber delta) + length (formBytes bytes form))) → eventAllowed rules bytes delta form ≡ refuses (numberOf n)
     by (gives x) h k = let z : _≡_ {A = ℕ} 0 1 = cc in absurd (omega arith)
     by (refuses m) h k = let q : m ≡ numberOf n = cc in h ∙ ap refuses q
 
@@ -129,34 +129,34 @@ module _ (rules : Rules) (running : ℕ) (bytes : List ℕ) (delta : ℕ) (s : L
   unfolding putEvent mapKind rawOf
   midi-event channel m =
       rw (midi-bytes rules running bytes delta channel m)
-      (by-test (channelFits delta channel (channelOf channel m)) (λ f. rw (f, fits-raw delta channel m f)) (λ f. rw f))
+      (by-test (channelFits delta channel (channelOf channel m)) (λ f. rw (f, fits-raw rules delta channel m f)) (λ f. rw f))
 
   formed-event : (k : Kind Span) (form : Form)
-      → eventBytes rules running bytes (event delta k) ≡ andThen (eventAllowed bytes delta form) (λ x. gives (encodeNumber delta ++ formBytes bytes form))
+      → eventBytes rules running bytes (event delta k) ≡ andThen (eventAllowed rules bytes delta form) (λ x. gives (encodeNumber delta ++ formBytes bytes form))
       → runningAfter (rawOf (mapKind (bytesOf bytes) k)) ≡ 0
-      → (next : ℕ) (end : List ℕ) → place next end ≡ formedPut bytes delta form s at
+      → (next : ℕ) (end : List ℕ) → place next end ≡ formedPut rules bytes delta form s at
       → record { buffer = end; next = next; running = pick (eqb next at) running 0 } ≡ putEvent rules running bytes (event delta k) s at
   unfolding putEvent
   formed-event k form e z next end p =
-      let b : end ≡ formedPut bytes delta form s at .buffer = ap (λ (x : Place). x .buffer) p in
-      let n : next ≡ formedPut bytes delta form s at .next = ap (λ (x : Place). x .next) p in
+      let b : end ≡ formedPut rules bytes delta form s at .buffer = ap (λ (x : Place). x .buffer) p in
+      let n : next ≡ formedPut rules bytes delta form s at .next = ap (λ (x : Place). x .next) p in
       let some : 0 < length (encodeNumber delta ++ formBytes bytes form) = omega (arith, length-append (encodeNumber delta) (formBytes bytes form), encode-some delta) in
       rw (e, z, b, n)
-      (ap (λ (r : ℕ). record { buffer = formedPut bytes delta form s at .buffer; next = formedPut bytes delta form s at .next; running = r })
-      (moved running (encodeNumber delta ++ formBytes bytes form) s at some (eventAllowed bytes delta form)))
+      (ap (λ (r : ℕ). record { buffer = formedPut rules bytes delta form s at .buffer; next = formedPut rules bytes delta form s at .next; running = r })
+      (moved running (encodeNumber delta ++ formBytes bytes form) s at some (eventAllowed rules bytes delta form)))
 
   module _ (next : ℕ) (end : List ℕ) where
-    pub sys-ex-event : (span : Span) → place next end ≡ formedPut bytes delta (System 0xF0 (rangeOf span)) s at
+    pub sys-ex-event : (span : Span) → place next end ≡ formedPut rules bytes delta (System 0xF0 (rangeOf span)) s at
         → record { buffer = end; next = next; running = pick (eqb next at) running 0 } ≡ putEvent rules running bytes (event delta (sysEx span)) s at
     unfolding mapKind rawOf
     sys-ex-event span = formed-event (sysEx span) (System 0xF0 (rangeOf span)) (sys-ex-bytes rules running bytes delta span) refl next end
 
-    pub escape-event : (span : Span) → place next end ≡ formedPut bytes delta (System 0xF7 (rangeOf span)) s at
+    pub escape-event : (span : Span) → place next end ≡ formedPut rules bytes delta (System 0xF7 (rangeOf span)) s at
         → record { buffer = end; next = next; running = pick (eqb next at) running 0 } ≡ putEvent rules running bytes (event delta (escape span)) s at
     unfolding mapKind rawOf
     escape-event span = formed-event (escape span) (System 0xF7 (rangeOf span)) (escape-bytes rules running bytes delta span) refl next end
 
-    pub meta-event : (m : Meta Span) → place next end ≡ formedPut bytes delta (metaForm m) s at
+    pub meta-event : (m : Meta Span) → place next end ≡ formedPut rules bytes delta (metaForm rules m) s at
         → record { buffer = end; next = next; running = pick (eqb next at) running 0 } ≡ putEvent rules running bytes (event delta (meta m)) s at
     unfolding mapKind rawOf
-    meta-event m = formed-event (meta m) (metaForm m) (meta-bytes rules running bytes delta m) (meta-after (mapMeta (bytesOf bytes) m)) next end
+    meta-event m = formed-event (meta m) (metaForm rules m) (meta-bytes rules running bytes delta m) (meta-after (mapMeta (bytesOf bytes) m)) next end

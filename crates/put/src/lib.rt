@@ -70,10 +70,17 @@ pub fn put_bytes(
 }
 
 // Any other event: the place after it, which is the place itself where it is left.
-fn put_formed(delta: u28, form: Form, bytes: &[u8], out: &mut [u8], at: usize) -> usize
-    ensures { λ r. ⌜ place r (now (out .exit)) ≡ placed at (write (andThen (eventAllowed (now (bytes .entry)) (delta .0) form) (λ x. gives (encodeNumber (delta .0) ++ formBytes (now (bytes .entry)) form))) (now (out .entry)) at) ⌝ }
+fn put_formed(
+    delta: u28,
+    form: Form,
+    rules: Rules,
+    bytes: &[u8],
+    out: &mut [u8],
+    at: usize,
+) -> usize
+    ensures { λ r. ⌜ place r (now (out .exit)) ≡ placed at (write (andThen (eventAllowed (rulesOf rules) (now (bytes .entry)) (delta .0) form) (λ x. gives (encodeNumber (delta .0) ++ formBytes (now (bytes .entry)) form))) (now (out .entry)) at) ⌝ }
 {
-    match form_measure(delta, form, bytes) {
+    match form_measure(delta, form, rules, bytes) {
         FormLength::Refused(_) => at,
         FormLength::Length(n) => {
             if out.len() < n {
@@ -83,7 +90,7 @@ fn put_formed(delta: u28, form: Form, bytes: &[u8], out: &mut [u8], at: usize) -
                 return at;
             }
             let start = put_delta(delta, out, at);
-            put_form(form, bytes, out, start);
+            put_form(form, rules, bytes, out, start);
             at + n
         }
     }
@@ -124,15 +131,15 @@ pub fn put_event(
             at,
         ),
         TrackEventKind::SysEx(load) => {
-            let next = put_formed(delta, Form::System(0xF0, load), bytes, out, at);
+            let next = put_formed(delta, Form::System(0xF0, load), rules, bytes, out, at);
             cleared(next, at, running)
         }
         TrackEventKind::Escape(load) => {
-            let next = put_formed(delta, Form::System(0xF7, load), bytes, out, at);
+            let next = put_formed(delta, Form::System(0xF7, load), rules, bytes, out, at);
             cleared(next, at, running)
         }
         TrackEventKind::Meta(message) => {
-            let next = put_formed(delta, meta_form(message), bytes, out, at);
+            let next = put_formed(delta, meta_form(message, rules), rules, bytes, out, at);
             cleared(next, at, running)
         }
     }

@@ -9,6 +9,7 @@ ghost use Rattle.smf.specs.Payload.{encodePayload};
 ghost use Rattle.smf.specs.Write.{over};
 ghost use Rattle.smf.specs.Wire.{encodeRaw};
 ghost use Rattle.smf.specs.Event.{bytesOf};
+ghost use Rattle.rules.specs.Rules.{rulesOf};
 ghost use Rattle.meta.specs.Meta.{spanOf};
 ghost use Rattle.shape.specs.Channel.{channelRaw};
 ghost use Rattle.legal.specs.Legal.{formAllowed};
@@ -18,6 +19,7 @@ ghost use Rattle.put.specs.Store.{Stored};
 use number::varlen::u28;
 use payload::write_varlen_slice;
 use rules::Range;
+use rules::Rules;
 use rules::Running;
 use shape::channel::Channel;
 use shape::form::Form;
@@ -103,8 +105,8 @@ fn put_fixed(type_byte: u8, own: Own, out: &mut [u8], at: usize)
     );
 }
 
-pub fn put_form(form: Form, bytes: &[u8], out: &mut [u8], at: usize)
-    requires { ⌜ (formAllowed (now bytes) form ≡ gives tt) × (at + length (formBytes (now bytes) form) ≤ length (now out)) ⌝ }
+pub fn put_form(form: Form, rules: Rules, bytes: &[u8], out: &mut [u8], at: usize)
+    requires { ⌜ (formAllowed (rulesOf rules) (now bytes) form ≡ gives tt) × (at + length (formBytes (now bytes) form) ≤ length (now out)) ⌝ }
     ensures { λ r. ⌜ now (out .exit) ≡ over (formBytes (now (bytes .entry)) form) (now (out .entry)) at ⌝ }
 {
     match form {

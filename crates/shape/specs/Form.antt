@@ -1,6 +1,6 @@
 -- What stands behind the delta of an event that is no channel message, by the kind.
 use Prim.Native.Nat.{ℕ, _+_, _*_, _/_, _%_}
-use Rattle.smf.specs.Answer.{pick}
+use Rattle.smf.specs.Answer.{pick, Rules}
 use Rattle.smf.specs.Place.{Span}
 use Rattle.smf.specs.Signed.{byteOfSigned}
 use Rattle.smf.specs.Smpte.{codeOfRate}
@@ -36,5 +36,5 @@ shapeOf (sequencerSpecific p) = Typed 0x7F (rangeOf p)
 shapeOf (unknown t p) = Unknown t (rangeOf p)
 
 -- document 01, refusal 18: that of a message within its widths
-unfoldable pub metaForm : Meta Span → Form
-metaForm m = pick (metaFits m) (shapeOf m) AboveWidth
+unfoldable pub metaForm : Rules → Meta Span → Form
+metaForm rules m = pick (metaFits rules m) (shapeOf m) AboveWidth

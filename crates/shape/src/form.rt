@@ -3,6 +3,7 @@ ghost use mathlib.Core.Path.{_≡_};
 ghost use Rattle.smf.specs.Answer.{pick};
 ghost use Rattle.smf.specs.Kind.{midiChannel, midiPort, smpteOffset};
 ghost use Rattle.smf.specs.Kind as kind;
+ghost use Rattle.rules.specs.Rules.{rulesOf};
 ghost use Rattle.smpte.specs.Smpte.{smpteTimeOf};
 ghost use Rattle.meta.specs.Meta.{numberMeta, metaOf};
 ghost use Rattle.shape.specs.Form.{ownOf, metaForm};
@@ -13,6 +14,7 @@ use int::u24;
 use meta::MetaMessage;
 use meta::OptionU16;
 use rules::Range;
+use rules::Rules;
 use smpte::EncodedSmpteTime;
 use smpte::SmpteTime;
 
@@ -56,8 +58,8 @@ fn fixed(type_byte: u8, n: usize, a: u8, b: u8) -> Form
     )
 }
 
-fn number_form(number: OptionU16) -> Form
-    ensures { λ r. ⌜ r ≡ metaForm (numberMeta number) ⌝ }
+fn number_form(number: OptionU16, rules: Rules) -> Form
+    ensures { λ r. ⌜ r ≡ metaForm (rulesOf rules) (numberMeta number) ⌝ }
 {
     match number {
         OptionU16::Some(n) => fixed(0x00, 2, (n / 256) as u8, (n % 256) as u8),
@@ -65,8 +67,8 @@ fn number_form(number: OptionU16) -> Form
     }
 }
 
-fn channel_form(channel: u4) -> Form
-    ensures { λ r. ⌜ r ≡ metaForm (midiChannel (channel .0)) ⌝ }
+fn channel_form(channel: u4, rules: Rules) -> Form
+    ensures { λ r. ⌜ r ≡ metaForm (rulesOf rules) (midiChannel (channel .0)) ⌝ }
 {
     if 0x10 <= channel.0 {
         return Form::AboveWidth;
@@ -74,8 +76,8 @@ fn channel_form(channel: u4) -> Form
     fixed(0x20, 1, channel.0, 0)
 }
 
-fn port_form(port: u7) -> Form
-    ensures { λ r. ⌜ r ≡ metaForm (midiPort (port .0)) ⌝ }
+fn port_form(port: u7, rules: Rules) -> Form
+    ensures { λ r. ⌜ r ≡ metaForm (rulesOf rules) (midiPort (port .0)) ⌝ }
 {
     if 0x80 <= port.0 {
         return Form::AboveWidth;
@@ -83,8 +85,8 @@ fn port_form(port: u7) -> Form
     fixed(0x21, 1, port.0, 0)
 }
 
-fn tempo_form(tempo: u24) -> Form
-    ensures { λ r. ⌜ r ≡ metaForm (kind.tempo (tempo .0)) ⌝ }
+fn tempo_form(tempo: u24, rules: Rules) -> Form
+    ensures { λ r. ⌜ r ≡ metaForm (rulesOf rules) (kind.tempo (tempo .0)) ⌝ }
 {
     let v = tempo.0;
     if 0x100_0000 <= v {
@@ -103,10 +105,10 @@ fn tempo_form(tempo: u24) -> Form
     )
 }
 
-fn time_form(time: SmpteTime) -> Form
-    ensures { λ r. ⌜ r ≡ metaForm (smpteOffset (smpteTimeOf time)) ⌝ }
+fn time_form(time: SmpteTime, rules: Rules) -> Form
+    ensures { λ r. ⌜ r ≡ metaForm (rulesOf rules) (smpteOffset (smpteTimeOf time)) ⌝ }
 {
-    match time.encode() {
+    match time.encode(rules) {
         EncodedSmpteTime::Bytes(a, b, c, d, e) => Form::Fixed(
             0x54,
             Own {
@@ -129,11 +131,11 @@ fn mode(minor: bool) -> u8
     if minor { 1 } else { 0 }
 }
 
-pub fn meta_form(message: MetaMessage) -> Form
-    ensures { λ r. ⌜ r ≡ metaForm (metaOf message) ⌝ }
+pub fn meta_form(message: MetaMessage, rules: Rules) -> Form
+    ensures { λ r. ⌜ r ≡ metaForm (rulesOf rules) (metaOf message) ⌝ }
 {
     match message {
-        MetaMessage::TrackNumber(number) => number_form(number),
+        MetaMessage::TrackNumber(number) => number_form(number, rules),
         MetaMessage::Text(load) => Form::Typed(0x01, load),
         MetaMessage::Copyright(load) => Form::Typed(0x02, load),
         MetaMessage::TrackName(load) => Form::Typed(0x03, load),
@@ -143,11 +145,11 @@ pub fn meta_form(message: MetaMessage) -> Form
         MetaMessage::CuePoint(load) => Form::Typed(0x07, load),
         MetaMessage::ProgramName(load) => Form::Typed(0x08, load),
         MetaMessage::DeviceName(load) => Form::Typed(0x09, load),
-        MetaMessage::MidiChannel(channel) => channel_form(channel),
-        MetaMessage::MidiPort(port) => port_form(port),
+        MetaMessage::MidiChannel(channel) => channel_form(channel, rules),
+        MetaMessage::MidiPort(port) => port_form(port, rules),
         MetaMessage::EndOfTrack => fixed(0x2F, 0, 0, 0),
-        MetaMessage::Tempo(tempo) => tempo_form(tempo),
-        MetaMessage::SmpteOffset(time) => time_form(time),
+        MetaMessage::Tempo(tempo) => tempo_form(tempo, rules),
+        MetaMessage::SmpteOffset(time) => time_form(time, rules),
         MetaMessage::TimeSignature(a, b, c, d) => Form::Fixed(
             0x58,
             Own {

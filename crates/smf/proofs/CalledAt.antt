@@ -46,7 +46,7 @@ module _ (rules : Rules) (p : List ℕ) where
   unfolding calledMeta isText
   form-tempo = refl
 
-  pub form-smpte : calledMeta rules 0x54 p ≡ from 5 0x54 p (andThen (timeIn p) (λ time. gives (smpteOffset time)))
+  pub form-smpte : calledMeta rules 0x54 p ≡ from 5 0x54 p (andThen (timeIn rules p) (λ time. gives (smpteOffset time)))
   unfolding calledMeta isText
   form-smpte = refl
 
@@ -179,8 +179,8 @@ module _ (rules : Rules) (s : List ℕ) (small : (i : ℕ) → getD s i 0 < 256)
   called-short-key h = rw (form-key rules (bytesOf s span), part-length, lt-leb 2 (span .length) h)
 
   -- a time, as it was answered
-  module _ (h : 5 ≤ span .length) {a : Answer Time} (e : a ≡ timeOf (getD s (span .start) 0) (at 1) (at 2) (at 3) (at 4)) where
-    answered : timeIn (bytesOf s span) ≡ a
+  module _ (h : 5 ≤ span .length) {a : Answer Time} (e : a ≡ timeOf rules (getD s (span .start) 0) (at 1) (at 2) (at 3) (at 4)) where
+    answered : timeIn rules (bytesOf s span) ≡ a
     answered = rw (part-first (omega arith), part-byte 1 (omega arith), part-byte 2 (omega arith), part-byte 3 (omega arith), part-byte 4 (omega arith)) (sym e)
 
     pub called-time : {t : Time} → a ≡ gives t → told (smpteOffset t) ≡ calledAt rules s 0x54 span

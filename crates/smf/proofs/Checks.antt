@@ -1,4 +1,4 @@
--- When the records of a list are legal, and which is the first that is not; the rules of reading do not touch it.
+-- When the records of a list are legal, and which is the first that is not.
 use mathlib.Core.Path.{_≡_, refl, sym, ap, _∙_, subst}
 use mathlib.Core.Bool.{true}
 use mathlib.Core.List.{List, [], _∷_, map}
@@ -13,7 +13,6 @@ use Rattle.smf.specs.Place.{Span}
 use Rattle.smf.specs.Event.{Event, mapEvent, isLegal, bytesOf, legal}
 use Rattle.smf.specs.Lists.{AllLegal, RecordsLegal, Checked, allLegal, illegal, withEvent, checkOn, check}
 use Rattle.smf.proofs.Event.{legal-exactly}
-use Rattle.smf.proofs.Legal.{any-rules}
 
 -- the records before the k-th are legal, and it is refused by n
 pub record FirstIllegal (rules : Rules) (bytes : List ℕ) (records : List (Event Span)) (n k : ℕ) : Type 0 where
@@ -28,10 +27,10 @@ module _ (rules : Rules) (bytes : List ℕ) where
   itself = mapEvent (bytesOf bytes)
 
   -- a legal record gives the event that it is over the bytes, and that is legal
-  given-itself : (e : Event Span) (l : Event (List ℕ)) → legal rules bytes e ≡ gives l → (l ≡ itself e) × (isLegal (itself e) ≡ true)
+  given-itself : (e : Event Span) (l : Event (List ℕ)) → legal rules bytes e ≡ gives l → (l ≡ itself e) × (isLegal rules (itself e) ≡ true)
   given-itself e l h = let x = legal-exactly rules bytes e l .0 h in (x .2, x .1)
 
-  pub all-legal : (records : List (Event Span)) → RecordsLegal rules bytes records → AllLegal (map itself records)
+  pub all-legal : (records : List (Event Span)) → RecordsLegal rules bytes records → AllLegal rules (map itself records)
   all-legal [] h = tt
   all-legal (e ∷ es) h = (given-itself e (itself e) (h .0) .1, all-legal es (h .1))
 
@@ -108,9 +107,3 @@ module _ (rules : Rules) (bytes : List ℕ) where
       → legal rules bytes (getD records i d) ≡ refuses n → check rules bytes 0 records ≡ illegal n i
   legal-stops records i d {n} h before e =
       check-illegal records n i .1 (record { before = before; event = getD records i d; later = drop (suc i) records; there = drop-cons records i d h; refused = e })
-
--- legality does not ask for the rules
-pub check-any-rules : (rules rules′ : Rules) (bytes : List ℕ) (i : ℕ) (records : List (Event Span)) → check rules bytes i records ≡ check rules′ bytes i records
-unfolding check
-check-any-rules rules rules′ bytes i [] = refl
-check-any-rules rules rules′ bytes i (e ∷ es) = rw (any-rules rules rules′ bytes e, check-any-rules rules rules′ bytes (i + 1) es)

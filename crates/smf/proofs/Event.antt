@@ -25,36 +25,36 @@ use Rattle.smf.proofs.Kind.{LegalKind, kind-called, kind-sound}
 use Rattle.smf.proofs.Named.{Named, raw-named, called-alike}
 
 -- what is legal of an event: its delta and its kind
-pub record Legal (e : Event (List ℕ)) : Type 0 where
+pub record Legal (rules : Rules) (e : Event (List ℕ)) : Type 0 where
   pub delta : e .delta < 2 ^ 28
-  pub kind : LegalKind (e .kind)
+  pub kind : LegalKind rules (e .kind)
 
-pub is-legal : (e : Event (List ℕ)) → isLegal e ≡ true → Legal e
+pub is-legal : (rules : Rules) (e : Event (List ℕ)) → isLegal rules e ≡ true → Legal rules e
 unfolding isLegal
-is-legal e h =
+is-legal rules e h =
     let h1 = both _ _ h in
     let h2 = both _ _ (h1 .0) in
     let h3 = both _ _ (h2 .0) in
     record { delta = ltb-true _ _ (h3 .0); kind = record { fits = h3 .1; small = ltb-true _ _ (h2 .1); own = not-true _ (h1 .1) } }
 
-pub legal-is : (e : Event (List ℕ)) → Legal e → isLegal e ≡ true
+pub legal-is : (rules : Rules) (e : Event (List ℕ)) → Legal rules e → isLegal rules e ≡ true
 unfolding isLegal
-legal-is e h =
+legal-is rules e h =
     let k = h .kind in
     rw (lt-ltb _ _ (h .delta), k .fits, lt-ltb _ _ (k .small), k .own)
 
 -- Written bytes are read back
 
 -- an event written is read back, in both modes, whatever follows
-pub event-reads-back : (rules : Rules) (running : ℕ) (e : Event (List ℕ)) (rest : List ℕ) → isRunning running ≡ true → isLegal e ≡ true
+pub event-reads-back : (rules : Rules) (running : ℕ) (e : Event (List ℕ)) (rest : List ℕ) → isRunning running ≡ true → isLegal rules e ≡ true
     → readEvent rules running (encodeEvent running e ++ rest) ≡ reads (taken e rest (runningAfter (rawOf (e .kind))))
 unfolding readEvent nameRaw named encodeEvent
 event-reads-back rules running e rest is h =
-    let l = is-legal e h in
-    rw (raw-reads-back rules running (rawEvent (e .delta) (rawOf (e .kind))) rest is (l .delta) (kind-sound (e .kind) (l .kind)), kind-called rules (e .kind) (l .kind))
+    let l = is-legal rules e h in
+    rw (raw-reads-back rules running (rawEvent (e .delta) (rawOf (e .kind))) rest is (l .delta) (kind-sound rules (e .kind) (l .kind)), kind-called rules (e .kind) (l .kind))
 
 -- no bytes of a legal event begin with those of another
-pub prefix-free : (rules : Rules) (running : ℕ) (e e′ : Event (List ℕ)) (s : List ℕ) → isRunning running ≡ true → isLegal e ≡ true → isLegal e′ ≡ true
+pub prefix-free : (rules : Rules) (running : ℕ) (e e′ : Event (List ℕ)) (s : List ℕ) → isRunning running ≡ true → isLegal rules e ≡ true → isLegal rules e′ ≡ true
     → encodeEvent running e ≡ encodeEvent running e′ ++ s → e ≡ e′
 prefix-free rules running e e′ s is h h′ q =
     let a = event-reads-back rules running e [] is h in
@@ -70,7 +70,7 @@ prefix-free rules running e e′ s is h h′ q =
 -- what every event is that is read of the bytes s, in either mode
 pub record EventRead (rules : Rules) (running : ℕ) (s : List ℕ) (t : Taken (Event (List ℕ))) : Type 0 where
   -- it is legal
-  pub legal : isLegal (t .value) ≡ true
+  pub legal : isLegal rules (t .value) ≡ true
   -- the running status after it is its raw form's, and is one
   pub after : t .running ≡ runningAfter (rawOf (t .value .kind))
   pub runs : isRunning (t .running) ≡ true
@@ -87,13 +87,13 @@ ReadGood rules running s (refused n after) = Unit {0}
 
 module _ (rules : Rules) (running : ℕ) (s : List ℕ) where
   -- a name makes nothing longer
-  event-shorter : (t : Taken RawEvent) (k : Kind (List ℕ)) → Named (t .value .raw) k
+  event-shorter : (t : Taken RawEvent) (k : Kind (List ℕ)) → Named rules (t .value .raw) k
       → length (encodeEvent running (event (t .value .delta) k)) ≤ length (encodeRawEvent running (t .value))
   unfolding encodeEvent
   event-shorter t k n =
       omega (arith, n .shorter running, raw-event-length running (t .value), raw-event-length running (rawEvent (t .value .delta) (rawOf k)))
 
-  named-read : (t : Taken RawEvent) → Read rules running s t → (a : Answer (Kind (List ℕ))) → Gives (Named (t .value .raw)) a → ReadGood rules running s (named t a)
+  named-read : (t : Taken RawEvent) → Read rules running s t → (a : Answer (Kind (List ℕ))) → Gives (Named rules (t .value .raw)) a → ReadGood rules running s (named t a)
   unfolding named
   named-read t r (refuses m) n = tt
   named-read t r (gives k) n =
@@ -103,7 +103,7 @@ module _ (rules : Rules) (running : ℕ) (s : List ℕ) where
       in
       let ends : Ends s (kindLoad [] k) (t .rest) = ⊎-elim (λ e. rw e (r .ends)) (λ e. rw e (ends-bare (r .ends))) (n .carries) in
       record {
-        legal = legal-is (event (t .value .delta) k) (record { delta = r .small; kind = record { fits = n .fits; small = small; own = n .own } });
+        legal = legal-is rules (event (t .value .delta) k) (record { delta = r .small; kind = record { fits = n .fits; small = small; own = n .own } });
         after = r .after ∙ sym (n .after);
         runs = rw (r .after) (after-runs (t .value .raw) (r .sound));
         past = r .past;
@@ -233,27 +233,27 @@ event-at-alike rules running s at = placed-alike s at (readEvent rules running (
 -- When a record is legal
 
 -- what a kind is over the bytes lent, of its parts that legality asks for
-meta-fits-over : {P Q : Type 0} (f : P → Q) (m : Meta P) → metaFits (mapMeta f m) ≡ metaFits m
+meta-fits-over : (rules : Rules) {P Q : Type 0} (f : P → Q) (m : Meta P) → metaFits rules (mapMeta f m) ≡ metaFits rules m
 unfolding mapMeta metaFits
-meta-fits-over f (trackNumber n) = refl
-meta-fits-over f noTrackNumber = refl
-meta-fits-over f (text t p) = refl
-meta-fits-over f (midiChannel c) = refl
-meta-fits-over f (midiPort c) = refl
-meta-fits-over f endOfTrack = refl
-meta-fits-over f (tempo v) = refl
-meta-fits-over f (smpteOffset time) = refl
-meta-fits-over f (timeSignature a b c d) = refl
-meta-fits-over f (keySignature sharps minor) = refl
-meta-fits-over f (sequencerSpecific p) = refl
-meta-fits-over f (unknown t p) = refl
+meta-fits-over rules f (trackNumber n) = refl
+meta-fits-over rules f noTrackNumber = refl
+meta-fits-over rules f (text t p) = refl
+meta-fits-over rules f (midiChannel c) = refl
+meta-fits-over rules f (midiPort c) = refl
+meta-fits-over rules f endOfTrack = refl
+meta-fits-over rules f (tempo v) = refl
+meta-fits-over rules f (smpteOffset time) = refl
+meta-fits-over rules f (timeSignature a b c d) = refl
+meta-fits-over rules f (keySignature sharps minor) = refl
+meta-fits-over rules f (sequencerSpecific p) = refl
+meta-fits-over rules f (unknown t p) = refl
 
-pub fits-over : {P Q : Type 0} (f : P → Q) (k : Kind P) → kindFits (mapKind f k) ≡ kindFits k
+pub fits-over : (rules : Rules) {P Q : Type 0} (f : P → Q) (k : Kind P) → kindFits rules (mapKind f k) ≡ kindFits rules k
 unfolding mapKind kindFits
-fits-over f (midi channel m) = refl
-fits-over f (sysEx p) = refl
-fits-over f (escape p) = refl
-fits-over f (meta m) = meta-fits-over f m
+fits-over rules f (midi channel m) = refl
+fits-over rules f (sysEx p) = refl
+fits-over rules f (escape p) = refl
+fits-over rules f (meta m) = meta-fits-over rules f m
 
 meta-load-over : {P Q : Type 0} (f : P → Q) (none : P) (m : Meta P) → metaLoad (f none) (mapMeta f m) ≡ f (metaLoad none m)
 unfolding mapMeta metaLoad
@@ -277,8 +277,8 @@ load-over f none (sysEx p) = refl
 load-over f none (escape p) = refl
 load-over f none (meta m) = meta-load-over f none m
 
-module _ {P Q : Type 0} (f : P → Q) (size : Q → ℕ) (size′ : P → ℕ) (none : P) where
-  meta-misnamed-over : (m : Meta P) → size (f (metaLoad none m)) ≡ size′ (metaLoad none m) → metaMisnamed size (mapMeta f m) ≡ metaMisnamed size′ m
+module _ (rules : Rules) {P Q : Type 0} (f : P → Q) (size : Q → ℕ) (size′ : P → ℕ) (none : P) where
+  meta-misnamed-over : (m : Meta P) → size (f (metaLoad none m)) ≡ size′ (metaLoad none m) → metaMisnamed rules size (mapMeta f m) ≡ metaMisnamed rules size′ m
   unfolding mapMeta metaLoad metaMisnamed
   meta-misnamed-over (trackNumber n) h = refl
   meta-misnamed-over noTrackNumber h = refl
@@ -291,9 +291,9 @@ module _ {P Q : Type 0} (f : P → Q) (size : Q → ℕ) (size′ : P → ℕ) (
   meta-misnamed-over (timeSignature a b c d) h = refl
   meta-misnamed-over (keySignature sharps minor) h = refl
   meta-misnamed-over (sequencerSpecific p) h = refl
-  meta-misnamed-over (unknown t p) h = ap (isNamed t) h
+  meta-misnamed-over (unknown t p) h = ap (isNamed rules t) h
 
-  misnamed-over : (k : Kind P) → size (f (kindLoad none k)) ≡ size′ (kindLoad none k) → kindMisnamed size (mapKind f k) ≡ kindMisnamed size′ k
+  misnamed-over : (k : Kind P) → size (f (kindLoad none k)) ≡ size′ (kindLoad none k) → kindMisnamed rules size (mapKind f k) ≡ kindMisnamed rules size′ k
   unfolding mapKind kindLoad kindMisnamed
   misnamed-over (midi channel m) h = refl
   misnamed-over (sysEx p) h = refl
@@ -308,7 +308,7 @@ inside-length bytes span h =
 module _ (rules : Rules) (bytes : List ℕ) (e : Event Span) where
   -- a record's tests, in the order of their refusals: 18, 19, 22, 23
   abbrev fit : Bool
-  fit = ltb (e .delta) (2 ^ 28) && kindFits (e .kind)
+  fit = ltb (e .delta) (2 ^ 28) && kindFits rules (e .kind)
 
   abbrev within : Bool
   within = inside bytes (kindLoad noSpan (e .kind))
@@ -317,17 +317,17 @@ module _ (rules : Rules) (bytes : List ℕ) (e : Event Span) where
   short = ltb (spanLength (kindLoad noSpan (e .kind))) (2 ^ 28)
 
   abbrev misnamed : Bool
-  misnamed = kindMisnamed spanLength (e .kind)
+  misnamed = kindMisnamed rules spanLength (e .kind)
 
   -- where its range is inside, they are those of the event that it is over the bytes
-  tests-over : within ≡ true → isLegal (mapEvent (bytesOf bytes) e) ≡ (fit && short && not misnamed)
+  tests-over : within ≡ true → isLegal rules (mapEvent (bytesOf bytes) e) ≡ (fit && short && not misnamed)
   unfolding isLegal mapEvent bytesOf
   tests-over h =
       let n = inside-length bytes (kindLoad noSpan (e .kind)) h in
-      rw (fits-over (bytesOf bytes) (e .kind), load-over (bytesOf bytes) noSpan (e .kind), n, misnamed-over (bytesOf bytes) length spanLength noSpan (e .kind) n)
+      rw (fits-over rules (bytesOf bytes) (e .kind), load-over (bytesOf bytes) noSpan (e .kind), n, misnamed-over rules (bytesOf bytes) length spanLength noSpan (e .kind) n)
 
   abbrev Over : Event (List ℕ) → Type 0
-  Over l = (within ≡ true) × (isLegal (mapEvent (bytesOf bytes) e) ≡ true) × (l ≡ mapEvent (bytesOf bytes) e)
+  Over l = (within ≡ true) × (isLegal rules (mapEvent (bytesOf bytes) e) ≡ true) × (l ≡ mapEvent (bytesOf bytes) e)
 
   legal-over : Gives Over (legal rules bytes e)
   unfolding legal
@@ -347,5 +347,5 @@ module _ (rules : Rules) (bytes : List ℕ) (e : Event Span) where
       rw (u .0, h .0, u .1, not-true misnamed (t .1)) (ap gives (sym (h .2)))
 
   -- a record is legal exactly when its range is inside the bytes lent and the event that it is over them is legal; and it gives that event
-  pub legal-exactly : (l : Event (List ℕ)) → (legal rules bytes e ≡ gives l) ↔ ((inside bytes (kindLoad noSpan (e .kind)) ≡ true) × (isLegal (mapEvent (bytesOf bytes) e) ≡ true) × (l ≡ mapEvent (bytesOf bytes) e))
+  pub legal-exactly : (l : Event (List ℕ)) → (legal rules bytes e ≡ gives l) ↔ ((inside bytes (kindLoad noSpan (e .kind)) ≡ true) × (isLegal rules (mapEvent (bytesOf bytes) e) ≡ true) × (l ≡ mapEvent (bytesOf bytes) e))
   legal-exactly l = (said-of (Gives Over) legal-over, over-legal l)

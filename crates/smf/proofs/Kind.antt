@@ -26,10 +26,10 @@ use Rattle.smf.proofs.Running.{Channel}
 use Rattle.smf.proofs.Wire.{Sound, takesOne}
 
 -- what is legal of a kind
-pub record LegalKind (k : Kind (List ℕ)) : Type 0 where
-  pub fits : kindFits k ≡ true
+pub record LegalKind (rules : Rules) (k : Kind (List ℕ)) : Type 0 where
+  pub fits : kindFits rules k ≡ true
   pub small : length (kindLoad [] k) < 2 ^ 28
-  pub own : kindMisnamed length k ≡ false
+  pub own : kindMisnamed rules length k ≡ false
 
 -- Channel messages
 
@@ -80,15 +80,15 @@ module _ (channel : ℕ) (c : channel < 16) where
   below : (a b : ℕ) → (ltb a 128 && ltb b 128) ≡ true → (a < 0x80) × (b < 0x80)
   below a b f = let g = both _ _ f in (ltb-true a 128 (g .0), ltb-true b 128 (g .1))
 
-  message-sound : (m : Message) → messageFits m ≡ true → Sound (rawMessage channel m)
+  message-sound : (rules : Rules) (m : Message) → messageFits rules m ≡ true → Sound (rawMessage channel m)
   unfolding rawMessage messageFits dataLength
-  message-sound (noteOff key vel) f = two-sound 0x8 key vel (omega arith) (omega arith) refl (below key vel f)
-  message-sound (noteOn key vel) f = two-sound 0x9 key vel (omega arith) (omega arith) refl (below key vel f)
-  message-sound (aftertouch key vel) f = two-sound 0xA key vel (omega arith) (omega arith) refl (below key vel f)
-  message-sound (controller number value) f = two-sound 0xB number value (omega arith) (omega arith) refl (below number value f)
-  message-sound (programChange program) f = one-sound 0xC program (omega arith) (omega arith) refl (ltb-true program 128 f)
-  message-sound (channelAftertouch vel) f = one-sound 0xD vel (omega arith) (omega arith) refl (ltb-true vel 128 f)
-  message-sound (pitchBend raw) f = let g = ltb-true raw 16384 f in two-sound 0xE (raw % 128) (raw / 128) (omega arith) (omega arith) refl (omega arith)
+  message-sound rules (noteOff key vel) f = two-sound 0x8 key vel (omega arith) (omega arith) refl (below key vel f)
+  message-sound rules (noteOn key vel) f = two-sound 0x9 key vel (omega arith) (omega arith) refl (below key vel f)
+  message-sound rules (aftertouch key vel) f = two-sound 0xA key vel (omega arith) (omega arith) refl (below key vel f)
+  message-sound rules (controller number value) f = two-sound 0xB number value (omega arith) (omega arith) refl (below number value f)
+  message-sound rules (programChange program) f = one-sound 0xC program (omega arith) (omega arith) refl (ltb-true program 128 f)
+  message-sound rules (channelAftertouch vel) f = one-sound 0xD vel (omega arith) (omega arith) refl (ltb-true vel 128 f)
+  message-sound rules (pitchBend raw) f = let g = ltb-true raw 16384 f in two-sound 0xE (raw % 128) (raw / 128) (omega arith) (omega arith) refl (omega arith)
 
 -- Meta messages
 
@@ -106,15 +106,15 @@ past-text t h z =
     h
 
 -- an `Unknown` that is not misnamed is called itself
-module _ (rules : Rules) (t : ℕ) (p : List ℕ) (unnamed : isNamed t (length p) ≡ false) where
-  no-other : (n : ℕ) → t ≡ n → isNamed n (length p) ≡ true → ⊥
-  no-other n e h = true≢false (sym h ∙ ap (λ (m : ℕ). isNamed m (length p)) (sym e) ∙ unnamed)
+module _ (rules : Rules) (t : ℕ) (p : List ℕ) (unnamed : isNamed rules t (length p) ≡ false) where
+  no-other : (n : ℕ) → t ≡ n → isNamed rules n (length p) ≡ true → ⊥
+  no-other n e h = true≢false (sym h ∙ ap (λ (m : ℕ). isNamed rules m (length p)) (sym e) ∙ unnamed)
 
   abbrev Itself : Answer (Meta (List ℕ)) → Type 0
   Itself a = a ≡ gives (unknown t p)
 
   -- at a type that is named from so many bytes up
-  short-itself : (u n : ℕ) (named : Answer (Meta (List ℕ))) → t ≡ u → (leb n (length p) ≡ true → isNamed u (length p) ≡ true) → Itself (from n t p named)
+  short-itself : (u n : ℕ) (named : Answer (Meta (List ℕ))) → t ≡ u → (leb n (length p) ≡ true → isNamed rules u (length p) ≡ true) → Itself (from n t p named)
   short-itself u n named e h = pick-test Itself (leb n (length p)) (λ l. absurd (no-other u e (h l))) (λ l. refl)
 
   pub unnamed-itself : calledMeta rules t p ≡ gives (unknown t p)
@@ -135,17 +135,17 @@ module _ (rules : Rules) (t : ℕ) (p : List ℕ) (unnamed : isNamed t (length p
 byte-own : (a : ℕ) → ltb a 256 ≡ true → a % 256 ≡ a
 byte-own a f = mod-eq-of-lt (ltb-true a 256 f)
 
-time-own : (time : Time) → isTime time ≡ true → timeIn (timeBytes time) ≡ gives time
+time-own : (rules : Rules) (time : Time) → isTime rules time ≡ true → timeIn rules (timeBytes time) ≡ gives time
 unfolding timeBytes
-time-own time is =
-    let r = in-range time is in
+time-own rules time is =
+    let r = in-range rules time is in
     let c = rate-coded (time .rate) (r .rated) in
     let first : (codeOfRate (time .rate) * 32 + time .hour) % 256 ≡ codeOfRate (time .rate) * 32 + time .hour = mod-eq-of-lt (omega (arith, c .small)) in
     let minute : time .minute % 256 ≡ time .minute = mod-eq-of-lt (omega (arith, r .minute-below)) in
     let second : time .second % 256 ≡ time .second = mod-eq-of-lt (omega (arith, r .second-below)) in
     let frame : time .frame % 256 ≡ time .frame = mod-eq-of-lt (omega (arith, r .frame-below, rate-small (time .rate) (r .rated))) in
     let subframe : time .subframe % 256 ≡ time .subframe = mod-eq-of-lt (omega (arith, r .subframe-below)) in
-    rw (first, minute, second, frame, subframe) (time-reads-back time is)
+    rw (first, minute, second, frame, subframe) (time-reads-back rules time is)
 
 sharps-own : (z : ℤ) → mag z < 128 → signedByte (byteOfSigned z % 256) ≡ z
 unfolding byteOfSigned
@@ -162,7 +162,7 @@ unfolding narrow
 narrow-own rules limit c of h l = let e : c % 256 ≡ c = mod-eq-of-lt (omega arith) in rw (e, lt-ltb c limit h)
 
 -- a legal meta message is called itself by its raw event
-meta-called : (rules : Rules) (m : Meta (List ℕ)) → metaFits m ≡ true → metaMisnamed length m ≡ false → called rules (rawMeta m) ≡ gives (meta m)
+meta-called : (rules : Rules) (m : Meta (List ℕ)) → metaFits rules m ≡ true → metaMisnamed rules length m ≡ false → called rules (rawMeta m) ≡ gives (meta m)
 unfolding called calledMeta rawMeta metaFits metaMisnamed isText trackNumberOf
 meta-called rules (trackNumber n) f o = let g = ltb-true n 65536 f in ap (λ (k : ℕ). gives (meta (trackNumber k))) (omega arith)
 meta-called rules noTrackNumber f o = refl
@@ -171,7 +171,7 @@ meta-called rules (midiChannel c) f o = narrow-own rules 16 c midiChannel (ltb-t
 meta-called rules (midiPort c) f o = narrow-own rules 128 c midiPort (ltb-true c 128 f) (omega arith)
 meta-called rules endOfTrack f o = refl
 meta-called rules (tempo v) f o = let g = ltb-true v 16777216 f in ap (λ (k : ℕ). gives (meta (tempo k))) (omega arith)
-meta-called rules (smpteOffset time) f o = rw (time-length time, time-own time f)
+meta-called rules (smpteOffset time) f o = rw (time-length time, time-own rules time f)
 meta-called rules (timeSignature a b c d) f o =
     let f1 = both _ _ f in
     let f2 = both _ _ (f1 .0) in
@@ -182,7 +182,7 @@ meta-called rules (sequencerSpecific p) f o = refl
 meta-called rules (unknown t p) f o = rw (unnamed-itself rules t p o)
 
 -- a legal kind is called itself by its raw event, which is sound
-pub kind-called : (rules : Rules) (k : Kind (List ℕ)) → LegalKind k → called rules (rawOf k) ≡ gives k
+pub kind-called : (rules : Rules) (k : Kind (List ℕ)) → LegalKind rules k → called rules (rawOf k) ≡ gives k
 unfolding rawOf kindFits kindMisnamed called
 kind-called rules (midi channel m) l = let f = both _ _ (l .fits) in message-called channel (ltb-true channel 16 (f .0)) rules m
 kind-called rules (sysEx p) l = refl
@@ -204,9 +204,9 @@ meta-sound (keySignature sharps minor) h = omega arith
 meta-sound (sequencerSpecific p) h = h
 meta-sound (unknown t p) h = h
 
-pub kind-sound : (k : Kind (List ℕ)) → LegalKind k → Sound (rawOf k)
+pub kind-sound : (rules : Rules) (k : Kind (List ℕ)) → LegalKind rules k → Sound (rawOf k)
 unfolding rawOf kindFits kindLoad
-kind-sound (midi channel m) l = let f = both _ _ (l .fits) in message-sound channel (ltb-true channel 16 (f .0)) m (f .1)
-kind-sound (sysEx p) l = (inl refl, l .small)
-kind-sound (escape p) l = (inr refl, l .small)
-kind-sound (meta m) l = meta-sound m (l .small)
+kind-sound rules (midi channel m) l = let f = both _ _ (l .fits) in message-sound channel (ltb-true channel 16 (f .0)) rules m (f .1)
+kind-sound rules (sysEx p) l = (inl refl, l .small)
+kind-sound rules (escape p) l = (inr refl, l .small)
+kind-sound rules (meta m) l = meta-sound m (l .small)

@@ -1,12 +1,77 @@
--- Legality: the rules of reading do not touch it.
-use mathlib.Core.Path.{_≡_, refl}
-use mathlib.Core.List.{List}
+-- Legality: whether bytes are read strictly or leniently does not touch it.
+use mathlib.Core.Path.{_≡_, refl, _∙_}
+use mathlib.Core.List.{List, [], _∷_}
 use Prim.Native.Nat.{ℕ}
-use Rattle.smf.specs.Answer.{Rules}
-use Rattle.smf.specs.Place.{Span}
-use Rattle.smf.specs.Event.{Event, legal}
+use lib.ListN.{length}
+use Rattle.smf.specs.Answer.{Rules, strictOf}
+use Rattle.smf.specs.Smpte.{isTime}
+use Rattle.smf.specs.Kind.{Message, noteOff, noteOn, aftertouch, controller, programChange, channelAftertouch, pitchBend}
+use Rattle.smf.specs.Kind.{Meta, trackNumber, noTrackNumber, text, midiChannel, midiPort, endOfTrack, tempo, smpteOffset, timeSignature, keySignature, sequencerSpecific, unknown}
+use Rattle.smf.specs.Kind.{Kind, midi, sysEx, escape, meta}
+use Rattle.smf.specs.Event.{Event, messageFits, metaFits, kindFits, isNamed, metaMisnamed, kindMisnamed, isLegal}
+use Rattle.smf.specs.Lists.{AllLegal}
 
--- what is legal under one set of rules is legal under any
-pub any-rules : (rules rules′ : Rules) (bytes : List ℕ) (e : Event Span) → legal rules bytes e ≡ legal rules′ bytes e
-unfolding legal
-any-rules rules rules′ bytes e = refl
+module _ (rules : Rules) where
+  message-fits-strictly : (m : Message) → messageFits (strictOf rules) m ≡ messageFits rules m
+  unfolding messageFits
+  message-fits-strictly (noteOff key vel) = refl
+  message-fits-strictly (noteOn key vel) = refl
+  message-fits-strictly (aftertouch key vel) = refl
+  message-fits-strictly (controller number value) = refl
+  message-fits-strictly (programChange program) = refl
+  message-fits-strictly (channelAftertouch vel) = refl
+  message-fits-strictly (pitchBend raw) = refl
+
+  meta-fits-strictly : {P : Type 0} (m : Meta P) → metaFits (strictOf rules) m ≡ metaFits rules m
+  unfolding metaFits isTime
+  meta-fits-strictly (trackNumber n) = refl
+  meta-fits-strictly noTrackNumber = refl
+  meta-fits-strictly (text t p) = refl
+  meta-fits-strictly (midiChannel c) = refl
+  meta-fits-strictly (midiPort c) = refl
+  meta-fits-strictly endOfTrack = refl
+  meta-fits-strictly (tempo v) = refl
+  meta-fits-strictly (smpteOffset time) = refl
+  meta-fits-strictly (timeSignature a b c d) = refl
+  meta-fits-strictly (keySignature sharps minor) = refl
+  meta-fits-strictly (sequencerSpecific p) = refl
+  meta-fits-strictly (unknown t p) = refl
+
+  kind-fits-strictly : {P : Type 0} (k : Kind P) → kindFits (strictOf rules) k ≡ kindFits rules k
+  unfolding kindFits
+  kind-fits-strictly (midi channel m) = rw (message-fits-strictly m)
+  kind-fits-strictly (sysEx p) = refl
+  kind-fits-strictly (escape p) = refl
+  kind-fits-strictly (meta m) = meta-fits-strictly m
+
+  meta-misnamed-strictly : {P : Type 0} (size : P → ℕ) (m : Meta P) → metaMisnamed (strictOf rules) size m ≡ metaMisnamed rules size m
+  unfolding metaMisnamed isNamed
+  meta-misnamed-strictly size (trackNumber n) = refl
+  meta-misnamed-strictly size noTrackNumber = refl
+  meta-misnamed-strictly size (text t p) = refl
+  meta-misnamed-strictly size (midiChannel c) = refl
+  meta-misnamed-strictly size (midiPort c) = refl
+  meta-misnamed-strictly size endOfTrack = refl
+  meta-misnamed-strictly size (tempo v) = refl
+  meta-misnamed-strictly size (smpteOffset time) = refl
+  meta-misnamed-strictly size (timeSignature a b c d) = refl
+  meta-misnamed-strictly size (keySignature sharps minor) = refl
+  meta-misnamed-strictly size (sequencerSpecific p) = refl
+  meta-misnamed-strictly size (unknown t p) = refl
+
+  kind-misnamed-strictly : {P : Type 0} (size : P → ℕ) (k : Kind P) → kindMisnamed (strictOf rules) size k ≡ kindMisnamed rules size k
+  unfolding kindMisnamed
+  kind-misnamed-strictly size (midi channel m) = refl
+  kind-misnamed-strictly size (sysEx p) = refl
+  kind-misnamed-strictly size (escape p) = refl
+  kind-misnamed-strictly size (meta m) = meta-misnamed-strictly size m
+
+  -- an event is legal under strict rules exactly when it is legal under the same rules, strict or not
+  pub legal-strictly : (e : Event (List ℕ)) → isLegal (strictOf rules) e ≡ isLegal rules e
+  unfolding isLegal
+  legal-strictly e = rw (kind-fits-strictly (e .kind), kind-misnamed-strictly length (e .kind))
+
+  -- and so are all of a list
+  pub all-strictly : (es : List (Event (List ℕ))) → AllLegal rules es → AllLegal (strictOf rules) es
+  all-strictly [] h = tt
+  all-strictly (e ∷ es) h = (legal-strictly e ∙ h .0, all-strictly es (h .1))

@@ -60,7 +60,7 @@ module _ (rules : Rules) where
   none-back most running = rw (more-none rules running most) (record { events = refl; stop = refl; rest = refl; after = refl })
 
   -- an event in front
-  one-back : (most running : ℕ) (e : Event (List ℕ)) (es : List (Event (List ℕ))) → isRunning running ≡ true → isLegal e ≡ true
+  one-back : (most running : ℕ) (e : Event (List ℕ)) (es : List (Event (List ℕ))) → isRunning running ≡ true → isLegal rules e ≡ true
       → (isRunning (eventAfter e) ≡ true → ReadsBack (readMore rules most (eventAfter e) (encodeList (eventAfter e) es)) (eventAfter e) es)
       → ReadsBack (readMore rules (suc most) running (encodeList running (e ∷ es))) running (e ∷ es)
   unfolding encodeList listAfter
@@ -73,7 +73,7 @@ module _ (rules : Rules) where
       rw (more-read rules running most (encodeEvent running e ++ rest) t (omega (arith, read .past)) back)
       (record { events = ap (λ (x : List (Event (List ℕ))). e ∷ x) (l .events); stop = l .stop; rest = l .rest; after = l .after })
 
-  more-back : (most running : ℕ) (es : List (Event (List ℕ))) → isRunning running ≡ true → AllLegal es → length es ≤ most
+  more-back : (most running : ℕ) (es : List (Event (List ℕ))) → isRunning running ≡ true → AllLegal rules es → length es ≤ most
       → ReadsBack (readMore rules most running (encodeList running es)) running es
   unfolding encodeList
   more-back zero running [] is h few = none-back zero running
@@ -82,7 +82,7 @@ module _ (rules : Rules) where
   more-back (suc most) running (e ∷ es) is h few =
       one-back most running e es is (h .0) (λ runs. more-back most (eventAfter e) es runs (h .1) (omega arith))
 
-  pub list-reads-back : (most running : ℕ) (es : List (Event (List ℕ))) → isRunning running ≡ true → AllLegal es → length es ≤ most
+  pub list-reads-back : (most running : ℕ) (es : List (Event (List ℕ))) → isRunning running ≡ true → AllLegal rules es → length es ≤ most
       → ReadsBack (readList rules most running (encodeList running es)) running es
   unfolding readList
   list-reads-back most running es is h few = rw is (more-back most running es is h few)
@@ -99,7 +99,7 @@ Stops rules most l (stopped n) = (after : ℕ) × (readEvent rules (l .running) 
 -- what every list is that is read of the bytes s, in either mode, however it stopped
 pub record ListRead (rules : Rules) (most running : ℕ) (s : List ℕ) (l : ListTaken) : Type 0 where
   -- its events are legal, and no more than may be
-  pub legal : AllLegal (eventsOf l)
+  pub legal : AllLegal rules (eventsOf l)
   pub count : length (l .events) ≤ most
   -- the running status is the one after them
   pub after : l .running ≡ listAfter running (eventsOf l)

@@ -76,7 +76,7 @@ called-carries rules t p =
     (pick-both (Carries p) (eqb t 0x21) (pick-both (Carries p) (leb 1 (length p)) (then-carries p (narrow rules 128 (byte p 0)) (λ c. gives (midiPort c)) (λ x f. refl)) (λ f. refl))
     (pick-both (Carries p) (eqb t 0x2F) (λ f. refl)
     (pick-both (Carries p) (eqb t 0x51) (pick-both (Carries p) (leb 3 (length p)) (λ f. refl) (λ f. refl))
-    (pick-both (Carries p) (eqb t 0x54) (pick-both (Carries p) (leb 5 (length p)) (then-carries p (timeIn p) (λ time. gives (smpteOffset time)) (λ x f. refl)) (λ f. refl))
+    (pick-both (Carries p) (eqb t 0x54) (pick-both (Carries p) (leb 5 (length p)) (then-carries p (timeIn rules p) (λ time. gives (smpteOffset time)) (λ x f. refl)) (λ f. refl))
     (pick-both (Carries p) (eqb t 0x58) (pick-both (Carries p) (leb 4 (length p)) (λ f. refl) (λ f. refl))
     (pick-both (Carries p) (eqb t 0x59) (pick-both (Carries p) (leb 2 (length p)) (λ f. refl) tt)
     (pick-both (Carries p) (eqb t 0x7F) (λ f. refl) (λ f. refl))))))))))

@@ -12,7 +12,7 @@ use lib.ListN.{length}
 use borrow.Author.Tests.{lt-ltb, ltb-true, lt-leb, leb-true, eq-eqb, eqb-true, eqb-false}
 use Rattle.smf.specs.Answer.{pick, Answer, gives, refuses, andThen, Rules, leniently}
 use Rattle.smf.specs.Signed.{signedByte}
-use Rattle.smf.specs.Smpte.{Time, isTime, timeBytes}
+use Rattle.smf.specs.Smpte.{Time, isTime, toTime, timeOf, timeBytes}
 use Rattle.smf.specs.Wire.{Raw, one, two, system, typed, dataLength, encodeRaw, runningAfter}
 use Rattle.smf.specs.Kind.{Message}
 use Rattle.smf.specs.Kind.{Meta, trackNumber, noTrackNumber, text, midiChannel, midiPort, endOfTrack, tempo, smpteOffset, sequencerSpecific, unknown}
@@ -29,34 +29,34 @@ use Rattle.smf.proofs.Kind.{past-text, unnamed-itself}
 
 -- What a raw event is called: a kind that fits, is no misnamed `Unknown`, carries the payload or none, leaves the same running status,
 -- and is no longer when it is written
-pub record Named (raw : Raw) (k : Kind (List ℕ)) : Type 0 where
-  pub fits : kindFits k ≡ true
-  pub own : kindMisnamed length k ≡ false
+pub record Named (rules : Rules) (raw : Raw) (k : Kind (List ℕ)) : Type 0 where
+  pub fits : kindFits rules k ≡ true
+  pub own : kindMisnamed rules length k ≡ false
   pub carries : (kindLoad [] k ≡ loadOf raw) ⊎ (kindLoad [] k ≡ [])
   pub after : runningAfter (rawOf k) ≡ runningAfter raw
   pub shorter : (running : ℕ) → length (encodeRaw running (rawOf k)) ≤ length (encodeRaw running raw)
 
 -- a kind that is written as it was read
-as-read : (raw : Raw) (k : Kind (List ℕ)) → kindFits k ≡ true → kindMisnamed length k ≡ false → kindLoad [] k ≡ loadOf raw → rawOf k ≡ raw → Named raw k
-as-read raw k f o l e = record { fits = f; own = o; carries = inl l; after = ap runningAfter e; shorter = λ running. rw e (omega arith) }
+as-read : (rules : Rules) (raw : Raw) (k : Kind (List ℕ)) → kindFits rules k ≡ true → kindMisnamed rules length k ≡ false → kindLoad [] k ≡ loadOf raw → rawOf k ≡ raw → Named rules raw k
+as-read rules raw k f o l e = record { fits = f; own = o; carries = inl l; after = ap runningAfter e; shorter = λ running. rw e (omega arith) }
 
 -- the message that a channel status and its data bytes say
-record Says (status : ℕ) (raw : Raw) (m : Message) : Type 0 where
-  fits : messageFits m ≡ true
+record Says (rules : Rules) (status : ℕ) (raw : Raw) (m : Message) : Type 0 where
+  fits : messageFits rules m ≡ true
   back : rawMessage (status % 16) m ≡ raw
 
-module _ (status : ℕ) (c : Channel status) where
-  said : (raw : Raw) (m : Message) → loadOf raw ≡ [] → Says status raw m → Named raw (midi (status % 16) m)
+module _ (rules : Rules) (status : ℕ) (c : Channel status) where
+  said : (raw : Raw) (m : Message) → loadOf raw ≡ [] → Says rules status raw m → Named rules raw (midi (status % 16) m)
   unfolding kindFits kindMisnamed kindLoad rawOf
-  said raw m l h = as-read raw (midi (status % 16) m) (rw (lt-ltb (status % 16) 16 (omega arith), h .fits)) refl (sym l) (h .back)
+  said raw m l h = as-read rules raw (midi (status % 16) m) (rw (lt-ltb (status % 16) 16 (omega arith), h .fits)) refl (sym l) (h .back)
 
   upper : (u : ℕ) → eqb (status / 16) u ≡ true → u * 16 + status % 16 ≡ status
   upper u e = omega (arith, eqb-true (status / 16) u e)
 
-  one-said : (a : ℕ) → takesOne status ≡ true → a < 0x80 → Says status (one status a) (messageOne (status / 16) a)
+  one-said : (a : ℕ) → takesOne status ≡ true → a < 0x80 → Says rules status (one status a) (messageOne (status / 16) a)
   unfolding messageOne messageFits rawMessage dataLength
   one-said a o f =
-      pick-test (Says status (one status a)) (eqb (status / 16) 0xC)
+      pick-test (Says rules status (one status a)) (eqb (status / 16) 0xC)
       (λ e. record { fits = lt-ltb a 128 f; back = ap (λ (n : ℕ). one n a) (upper 0xC e) })
       (λ n. record { fits = lt-ltb a 128 f; back = ap (λ (n : ℕ). one n a) (upper 0xD (by-test (eqb (status / 16) 0xD) (λ e. e) (λ g. absurd (true≢false (sym (rw (n, g) at o)))))) })
 
@@ -67,10 +67,10 @@ module _ (status : ℕ) (c : Channel status) where
       by-test (eqb (status / 16) 0xC) (λ e. absurd (true≢false (rw e at o)))
       (λ n. (n, by-test (eqb (status / 16) 0xD) (λ e. absurd (true≢false (rw (n, e) at o))) (λ m. m)))
 
-  two-said : (a b : ℕ) → takesOne status ≡ false → a < 0x80 → b < 0x80 → Says status (two status a b) (messageTwo (status / 16) a b)
+  two-said : (a b : ℕ) → takesOne status ≡ false → a < 0x80 → b < 0x80 → Says rules status (two status a b) (messageTwo (status / 16) a b)
   unfolding messageTwo messageFits rawMessage
   two-said a b o f g =
-      let P = Says status (two status a b) in
+      let P = Says rules status (two status a b) in
       let fit : (ltb a 128 && ltb b 128) ≡ true = rw (lt-ltb a 128 f, lt-ltb b 128 g) in
       let half = eqb-false (status / 16) in
       pick-test P (eqb (status / 16) 0x8) (λ e. record { fits = fit; back = ap (λ (n : ℕ). two n a b) (upper 0x8 e) })
@@ -90,24 +90,24 @@ typed-shorter running t u p q h = omega (arith, encode-payload-length p, encode-
 
 module _ (rules : Rules) (t : ℕ) (p : List ℕ) where
   abbrev MetaNamed : Meta (List ℕ) → Type 0
-  MetaNamed m = Named (typed t p) (meta m)
+  MetaNamed m = Named rules (typed t p) (meta m)
 
   -- a message that keeps the payload, and one that keeps what it needs of it
-  whole : (m : Meta (List ℕ)) → metaFits m ≡ true → metaMisnamed length m ≡ false → metaLoad [] m ≡ p → rawMeta m ≡ typed t p → MetaNamed m
+  whole : (m : Meta (List ℕ)) → metaFits rules m ≡ true → metaMisnamed rules length m ≡ false → metaLoad [] m ≡ p → rawMeta m ≡ typed t p → MetaNamed m
   unfolding kindFits kindMisnamed kindLoad rawOf
-  whole m f o l e = as-read (typed t p) (meta m) f o l e
+  whole m f o l e = as-read rules (typed t p) (meta m) f o l e
 
-  needed : (m : Meta (List ℕ)) (u : ℕ) (q : List ℕ) → metaFits m ≡ true → metaMisnamed length m ≡ false → metaLoad [] m ≡ [] → rawMeta m ≡ typed u q → length q ≤ length p → MetaNamed m
+  needed : (m : Meta (List ℕ)) (u : ℕ) (q : List ℕ) → metaFits rules m ≡ true → metaMisnamed rules length m ≡ false → metaLoad [] m ≡ [] → rawMeta m ≡ typed u q → length q ≤ length p → MetaNamed m
   unfolding kindFits kindMisnamed kindLoad rawOf
   needed m u q f o l e h =
       record { fits = f; own = o; carries = inr l; after = ap runningAfter e; shorter = λ running. rw e (typed-shorter running t u p q h) }
 
-  itself : isNamed t (length p) ≡ false → MetaNamed (unknown t p)
+  itself : isNamed rules t (length p) ≡ false → MetaNamed (unknown t p)
   unfolding metaFits metaMisnamed metaLoad rawMeta
   itself o = whole (unknown t p) refl o refl refl
 
   -- a kind that is named from n bytes up, and is `Unknown` below
-  from-named : (n u : ℕ) (named : Answer (Meta (List ℕ))) → t ≡ u → (leb n (length p) ≡ false → isNamed u (length p) ≡ false) → (n ≤ length p → Gives MetaNamed named) → Gives MetaNamed (from n t p named)
+  from-named : (n u : ℕ) (named : Answer (Meta (List ℕ))) → t ≡ u → (leb n (length p) ≡ false → isNamed rules u (length p) ≡ false) → (n ≤ length p → Gives MetaNamed named) → Gives MetaNamed (from n t p named)
   from-named n u named e short long =
       pick-test (Gives MetaNamed) (leb n (length p)) (λ l. long (leb-true n (length p) l)) (λ l. itself (rw e (short l)))
 
@@ -140,15 +140,15 @@ module _ (rules : Rules) (t : ℕ) (p : List ℕ) where
   unfolding metaFits metaMisnamed metaLoad rawMeta
   tempo-named l = let v = byte p 0 * 65536 + byte p 1 * 256 + byte p 2 in needed (tempo v) 0x51 _ (lt-ltb v 16777216 (omega arith)) refl refl refl l
 
-  time-named : 5 ≤ length p → Gives MetaNamed (andThen (timeIn p) (λ time. gives (smpteOffset time)))
+  time-named : 5 ≤ length p → Gives MetaNamed (andThen (timeIn rules p) (λ time. gives (smpteOffset time)))
   unfolding metaFits metaMisnamed metaLoad rawMeta
   time-named l =
-      then-gives (λ (time : Time). isTime time ≡ true) MetaNamed _ (timeIn p) time-legal
+      then-gives (λ (time : Time). isTime rules time ≡ true) MetaNamed _ (timeIn rules p) time-legal
       (λ time is. needed (smpteOffset time) 0x54 (timeBytes time) is refl refl refl (omega (arith, time-length time))) where
-        time-legal : Gives (λ (time : Time). isTime time ≡ true) (timeIn p)
-        time-legal = by (timeIn p) refl where
-          by : (a : Answer Time) → timeIn p ≡ a → Gives (λ (time : Time). isTime time ≡ true) a
-          by (gives time) e = time-read (byte p 0) (byte p 1) (byte p 2) (byte p 3) (byte p 4) e .legal
+        time-legal : Gives (λ (time : Time). isTime rules time ≡ true) (timeIn rules p)
+        time-legal = by (timeIn rules p) refl where
+          by : (a : Answer Time) → timeIn rules p ≡ a → Gives (λ (time : Time). isTime rules time ≡ true) a
+          by (gives time) e = time-read rules (byte p 0) (byte p 1) (byte p 2) (byte p 3) (byte p 4) e .legal
           by (refuses n) e = tt
 
   signature-named : 4 ≤ length p → MetaNamed (signatureOf p)
@@ -180,26 +180,26 @@ module _ (rules : Rules) (t : ℕ) (p : List ℕ) where
       (λ n59. pick-test P (eqb t 0x7F) (λ e. whole (sequencerSpecific p) refl refl refl (ap (λ (n : ℕ). typed n p) (sym (eqb-true t 0x7F e))))
       (λ n7F. itself (rw (lt-leb t 0x09 (past-text t ntext n00), n20, n21, n2F, n51, n54, n58, n59, n7F))))))))))))
 
-typed-named : (rules : Rules) (t : ℕ) (p : List ℕ) → Gives (Named (typed t p)) (called rules (typed t p))
+typed-named : (rules : Rules) (t : ℕ) (p : List ℕ) → Gives (Named rules (typed t p)) (called rules (typed t p))
 unfolding called
-typed-named rules t p = then-gives (MetaNamed rules t p) (Named (typed t p)) _ (calledMeta rules t p) (meta-named rules t p) (λ m k. k)
+typed-named rules t p = then-gives (MetaNamed rules t p) (Named rules (typed t p)) _ (calledMeta rules t p) (meta-named rules t p) (λ m k. k)
 
-pub raw-named : (rules : Rules) (raw : Raw) → Sound raw → Gives (Named raw) (called rules raw)
+pub raw-named : (rules : Rules) (raw : Raw) → Sound raw → Gives (Named rules raw) (called rules raw)
 unfolding called kindFits kindMisnamed kindLoad rawOf
-raw-named rules (one status a) h = said status (h .0) (one status a) (messageOne (status / 16) a) refl (one-said status (h .0) a (h .1) (h .2))
-raw-named rules (two status a b) h = said status (h .0) (two status a b) (messageTwo (status / 16) a b) refl (two-said status (h .0) a b (h .1) (h .2) (h .3))
+raw-named rules (one status a) h = said rules status (h .0) (one status a) (messageOne (status / 16) a) refl (one-said rules status (h .0) a (h .1) (h .2))
+raw-named rules (two status a b) h = said rules status (h .0) (two status a b) (messageTwo (status / 16) a b) refl (two-said rules status (h .0) a b (h .1) (h .2) (h .3))
 raw-named rules (system status p) h =
-    pick-test (Named (system status p)) (eqb status 0xF0)
-    (λ e. as-read (system status p) (sysEx p) refl refl refl (ap (λ (n : ℕ). system n p) (sym (eqb-true status 0xF0 e))))
-    (λ e. as-read (system status p) (escape p) refl refl refl (ap (λ (n : ℕ). system n p) (⊎-elim (λ z. absurd (eqb-false status 0xF0 e z)) sym (h .0))))
+    pick-test (Named rules (system status p)) (eqb status 0xF0)
+    (λ e. as-read rules (system status p) (sysEx p) refl refl refl (ap (λ (n : ℕ). system n p) (sym (eqb-true status 0xF0 e))))
+    (λ e. as-read rules (system status p) (escape p) refl refl refl (ap (λ (n : ℕ). system n p) (⊎-elim (λ z. absurd (eqb-false status 0xF0 e z)) sym (h .0))))
 raw-named rules (typed t p) h = typed-named rules t p
 
 -- an `Unknown` is misnamed exactly when it is not called itself
-pub unnamed-exactly : (rules : Rules) (t : ℕ) (p : List ℕ) → (isNamed t (length p) ≡ false) ↔ (called rules (typed t p) ≡ gives (meta (unknown t p)))
+pub unnamed-exactly : (rules : Rules) (t : ℕ) (p : List ℕ) → (isNamed rules t (length p) ≡ false) ↔ (called rules (typed t p) ≡ gives (meta (unknown t p)))
 unfolding called kindMisnamed metaMisnamed
 unnamed-exactly rules t p = (
   λ h. rw (unnamed-itself rules t p h),
-  λ e. said-of (Gives (Named (typed t p))) (typed-named rules t p) e .own,
+  λ e. said-of (Gives (Named rules (typed t p))) (typed-named rules t p) e .own,
 )
 
 -- what strict reading calls an event, lenient reading calls it too
@@ -211,6 +211,11 @@ module _ (rules : Rules) where
   narrowed-alike : (limit b : ℕ) (of : ℕ → Meta (List ℕ)) → Alike (andThen (narrow rules limit b) (λ c. gives (of c))) (andThen (narrow (leniently rules) limit b) (λ c. gives (of c)))
   narrowed-alike limit b of = then-alike _ _ (narrow rules limit b) (narrow (leniently rules) limit b) (narrow-alike limit b) (λ c. refl)
 
+  -- a time is a time in either mode
+  time-alike : (p : List ℕ) → Alike (timeIn rules p) (timeIn (leniently rules) p)
+  unfolding timeOf toTime isTime
+  time-alike p = alike-self (timeIn rules p)
+
   meta-alike : (t : ℕ) (p : List ℕ) → Alike (calledMeta rules t p) (calledMeta (leniently rules) t p)
   unfolding calledMeta
   meta-alike t p =
@@ -220,7 +225,7 @@ module _ (rules : Rules) where
       (pick-alike Alike (eqb t 0x21) (pick-alike Alike (leb 1 (length p)) (narrowed-alike 128 (byte p 0) midiPort) refl)
       (pick-alike Alike (eqb t 0x2F) refl
       (pick-alike Alike (eqb t 0x51) (alike-self (from 3 t p (gives (tempoOf p))))
-      (pick-alike Alike (eqb t 0x54) (alike-self (from 5 t p (andThen (timeIn p) (λ time. gives (smpteOffset time)))))
+      (pick-alike Alike (eqb t 0x54) (pick-alike Alike (leb 5 (length p)) (then-alike _ _ (timeIn rules p) (timeIn (leniently rules) p) (time-alike p) (λ time. refl)) refl)
       (pick-alike Alike (eqb t 0x58) (alike-self (from 4 t p (gives (signatureOf p))))
       (pick-alike Alike (eqb t 0x59) (alike-self (pick (leb 2 (length p)) (gives (keyOf p)) (refuses 14)))
       (pick-alike Alike (eqb t 0x7F) refl refl)))))))))

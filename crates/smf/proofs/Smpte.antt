@@ -9,7 +9,7 @@ use native.Mathlib.Omega.{arith}
 use lib.Dec.{ltb, eqb}
 use lib.ListN.{length, getD}
 use borrow.Author.Tests.{ltb-true, ltb-false, lt-ltb, le-ltb, eqb-true, eqb-false, eq-eqb, ne-eqb}
-use Rattle.smf.specs.Answer.{pick, Answer, gives}
+use Rattle.smf.specs.Answer.{pick, Answer, gives, Rules}
 use Rattle.smf.specs.Smpte.{isRate, rateOfCode, codeOfRate, Time, time, isTime, toTime, timeOf, timeBytes, seconds, frames, subframes, position, earlier}
 use Rattle.smf.proofs.Answer.{by-test, by-lt, pick-test, both, given}
 
@@ -56,7 +56,7 @@ code-back code h =
     (λ n2. rw (n0, n1, n2) (omega (arith, eqb-false code 0 n0, eqb-false code 1 n1, eqb-false code 2 n2)))))
 
 -- the ranges of a time, one by one
-pub record InRange (t : Time) : Type 0 where
+pub record InRange (rules : Rules) (t : Time) : Type 0 where
   pub rated : isRate (t .rate) ≡ true
   pub hour-below : t .hour < 24
   pub minute-below : t .minute < 60
@@ -65,9 +65,9 @@ pub record InRange (t : Time) : Type 0 where
   pub subframe-below : t .subframe < 100
 
 -- a legal time is in its ranges, and a time in its ranges is legal
-pub in-range : (t : Time) → isTime t ≡ true → InRange t
+pub in-range : (rules : Rules) (t : Time) → isTime rules t ≡ true → InRange rules t
 unfolding isTime
-in-range t e0 =
+in-range rules t e0 =
     let e1 = both _ _ e0 in
     let e2 = both _ _ (e1 .0) in
     let e3 = both _ _ (e2 .0) in
@@ -82,9 +82,9 @@ in-range t e0 =
       subframe-below = ltb-true _ _ (e1 .1);
     }
 
-pub is-time : (t : Time) → InRange t → isTime t ≡ true
+pub is-time : (rules : Rules) (t : Time) → InRange rules t → isTime rules t ≡ true
 unfolding isTime
-is-time t r =
+is-time rules t r =
     rw (
       r .rated,
       lt-ltb _ _ (r .hour-below),
@@ -94,43 +94,43 @@ is-time t r =
       lt-ltb _ _ (r .subframe-below),
     )
 
-pub out-of-range : (t : Time) → (InRange t → ⊥) → isTime t ≡ false
-out-of-range t not = by-test (isTime t) (λ is. absurd (not (in-range t is))) (λ is. is)
+pub out-of-range : (rules : Rules) (t : Time) → (InRange rules t → ⊥) → isTime rules t ≡ false
+out-of-range rules t not = by-test (isTime rules t) (λ is. absurd (not (in-range rules t is))) (λ is. is)
 
 pub time-length : (t : Time) → length (timeBytes t) ≡ 5
 unfolding timeBytes
 time-length t = refl
 
 -- the time that five bytes of a list say
-abbrev pub timeIn : List ℕ → Answer Time
-timeIn bytes = timeOf (getD bytes 0 0) (getD bytes 1 0) (getD bytes 2 0) (getD bytes 3 0) (getD bytes 4 0)
+abbrev pub timeIn : Rules → List ℕ → Answer Time
+timeIn rules bytes = timeOf rules (getD bytes 0 0) (getD bytes 1 0) (getD bytes 2 0) (getD bytes 3 0) (getD bytes 4 0)
 
 -- what is written of a legal time is read back
-pub time-reads-back : (t : Time) → isTime t ≡ true → timeIn (timeBytes t) ≡ gives t
+pub time-reads-back : (rules : Rules) (t : Time) → isTime rules t ≡ true → timeIn rules (timeBytes t) ≡ gives t
 unfolding timeOf toTime timeBytes
-time-reads-back t is =
-    let r = in-range t is in
+time-reads-back rules t is =
+    let r = in-range rules t is in
     let c = rate-coded (t .rate) (r .rated) in
     let hour : (codeOfRate (t .rate) * 32 + t .hour) % 32 ≡ t .hour = omega (arith, r .hour-below) in
     let code : (codeOfRate (t .rate) * 32 + t .hour) / 32 ≡ codeOfRate (t .rate) = omega (arith, r .hour-below) in
     rw (hour, code, mod-eq-of-lt (c .small), c .back, is)
 
 -- what is read is legal, and its bytes are those that were read, but for bit 7 of the first
-pub record TimeRead (first minute second frame subframe : ℕ) (t : Time) : Type 0 where
-  pub legal : isTime t ≡ true
+pub record TimeRead (rules : Rules) (first minute second frame subframe : ℕ) (t : Time) : Type 0 where
+  pub legal : isTime rules t ≡ true
   pub bytes : timeBytes t ≡ (first % 128) ∷ minute ∷ second ∷ frame ∷ subframe ∷ []
 
 pub time-read :
-    (first minute second frame subframe : ℕ) {t : Time} →
-    timeOf first minute second frame subframe ≡ gives t →
-    TimeRead first minute second frame subframe t
+    (rules : Rules) (first minute second frame subframe : ℕ) {t : Time} →
+    timeOf rules first minute second frame subframe ≡ gives t →
+    TimeRead rules first minute second frame subframe t
 unfolding timeOf toTime timeBytes
-time-read first minute second frame subframe {t} e =
+time-read rules first minute second frame subframe {t} e =
     let s = time (first % 32) minute second frame subframe (rateOfCode (first / 32 % 4)) in
-    let g = given (isTime s) s 13 e in
+    let g = given (isTime rules s) s 13 e in
     let head : codeOfRate (rateOfCode (first / 32 % 4)) * 32 + first % 32 ≡ first % 128 =
     rw (code-back (first / 32 % 4) (omega arith)) (omega arith) in
-    subst (TimeRead first minute second frame subframe) (g .1)
+    subst (TimeRead rules first minute second frame subframe) (g .1)
     (record { legal = g .0; bytes = rw head })
 
 -- a higher number, whatever stands behind it
@@ -138,18 +138,18 @@ higher : (n : ℕ) (a b x y : ℕ) → a < b → x < n → a * n + x < b * n + y
 higher n a b x y ab xn = omega (arith, mul-le-mul-right n ab)
 
 -- how large a legal time's counts are
-pub seconds-below : (t : Time) → InRange t → seconds t < 86400
+pub seconds-below : {rules : Rules} (t : Time) → InRange rules t → seconds t < 86400
 unfolding seconds
 seconds-below t r = omega (arith, r)
 
-pub frames-below : (t : Time) → InRange t → frames t < 2592000
+pub frames-below : {rules : Rules} (t : Time) → InRange rules t → frames t < 2592000
 unfolding frames
 frames-below t r =
     let small = rate-small (t .rate) (r .rated) in
     omega (arith, higher (t .rate) (seconds t) 86400 (t .frame) 0 (seconds-below t r) (r .frame-below))
 
 -- a legal time in an earlier second or frame has a lower position than any time of its rate in a later one
-module _ (s t : Time) (is : InRange s) (one : s .rate ≡ t .rate) where
+module _ {rules : Rules} (s t : Time) (is : InRange rules s) (one : s .rate ≡ t .rate) where
   by-frames : frames s < frames t → subframes s < subframes t
   unfolding subframes
   by-frames h = omega (arith, is .subframe-below)
@@ -175,15 +175,15 @@ decides a b {p} {q} less more same =
 
 -- positions of legal times of one rate are ordered as the times are
 pub positions-ordered :
-    (s t : Time) →
-    isTime s ≡ true →
-    isTime t ≡ true →
+    (rules : Rules) (s t : Time) →
+    isTime rules s ≡ true →
+    isTime rules t ≡ true →
     s .rate ≡ t .rate →
     ltb (subframes s) (subframes t) ≡ earlier s t
 unfolding earlier seconds frames subframes
-positions-ordered s t es et one =
-    let is = in-range s es in
-    let it = in-range t et in
+positions-ordered rules s t es et one =
+    let is = in-range rules s es in
+    let it = in-range rules t et in
     let sooner = by-seconds s t is one in
     let later = by-seconds t s it (sym one) in
     decides (s .hour) (t .hour) (λ h. sooner (omega arith)) (λ h. later (omega arith))
@@ -222,23 +222,23 @@ neither-earlier s t one p q =
     rw (hours .0, minutes .0, seconds .0, frames .0, subframe, one)
 
 -- a legal time has a position
-pub position-legal : (t : Time) → isTime t ≡ true → position t ≡ gives (subframes t)
+pub position-legal : (rules : Rules) (t : Time) → isTime rules t ≡ true → position rules t ≡ gives (subframes t)
 unfolding position
-position-legal t is = rw is
+position-legal rules t is = rw is
 
 -- legal times of one rate have the same position exactly when they are the same
 pub same-position :
-    (s t : Time) →
-    isTime s ≡ true →
-    isTime t ≡ true →
+    (rules : Rules) (s t : Time) →
+    isTime rules s ≡ true →
+    isTime rules t ≡ true →
     s .rate ≡ t .rate →
-    (position s ≡ position t) ↔ (s ≡ t)
-same-position s t es et one = (
+    (position rules s ≡ position rules t) ↔ (s ≡ t)
+same-position rules s t es et one = (
   λ e.
-      let ps = position-legal s es in
-      let pt = position-legal t et in
+      let ps = position-legal rules s es in
+      let pt = position-legal rules t et in
       let same : subframes s ≡ subframes t = cc in
-      neither-earlier s t one (sym (positions-ordered s t es et one) ∙ le-ltb (subframes s) (subframes t) (omega arith))
-      (sym (positions-ordered t s et es (sym one)) ∙ le-ltb (subframes t) (subframes s) (omega arith)),
-  λ e. ap position e,
+      neither-earlier s t one (sym (positions-ordered rules s t es et one) ∙ le-ltb (subframes s) (subframes t) (omega arith))
+      (sym (positions-ordered rules t s et es (sym one)) ∙ le-ltb (subframes t) (subframes s) (omega arith)),
+  λ e. ap (position rules) e,
 )

@@ -92,34 +92,34 @@ eventAt rules running s at = placed s at (readEvent rules running (drop at s))
 -- Writing
 
 -- document 01, refusal 18: each restricted field within its width, an SMPTE time within its ranges; a record's bytes are below 256 anyway
-unfoldable pub messageFits : Message → Bool
-messageFits (noteOff key vel) = ltb key 128 && ltb vel 128
-messageFits (noteOn key vel) = ltb key 128 && ltb vel 128
-messageFits (aftertouch key vel) = ltb key 128 && ltb vel 128
-messageFits (controller number value) = ltb number 128 && ltb value 128
-messageFits (programChange program) = ltb program 128
-messageFits (channelAftertouch vel) = ltb vel 128
-messageFits (pitchBend raw) = ltb raw 16384
+unfoldable pub messageFits : Rules → Message → Bool
+messageFits rules (noteOff key vel) = ltb key 128 && ltb vel 128
+messageFits rules (noteOn key vel) = ltb key 128 && ltb vel 128
+messageFits rules (aftertouch key vel) = ltb key 128 && ltb vel 128
+messageFits rules (controller number value) = ltb number 128 && ltb value 128
+messageFits rules (programChange program) = ltb program 128
+messageFits rules (channelAftertouch vel) = ltb vel 128
+messageFits rules (pitchBend raw) = ltb raw 16384
 
-unfoldable pub metaFits : {P : Type 0} → Meta P → Bool
-metaFits (trackNumber n) = ltb n 65536
-metaFits noTrackNumber = true
-metaFits (text t p) = isText t
-metaFits (midiChannel c) = ltb c 16
-metaFits (midiPort c) = ltb c 128
-metaFits endOfTrack = true
-metaFits (tempo v) = ltb v 16777216
-metaFits (smpteOffset time) = isTime time
-metaFits (timeSignature a b c d) = ltb a 256 && ltb b 256 && ltb c 256 && ltb d 256
-metaFits (keySignature sharps minor) = ltb (mag sharps) 128
-metaFits (sequencerSpecific p) = true
-metaFits (unknown t p) = true
+unfoldable pub metaFits : {P : Type 0} → Rules → Meta P → Bool
+metaFits rules (trackNumber n) = ltb n 65536
+metaFits rules noTrackNumber = true
+metaFits rules (text t p) = isText t
+metaFits rules (midiChannel c) = ltb c 16
+metaFits rules (midiPort c) = ltb c 128
+metaFits rules endOfTrack = true
+metaFits rules (tempo v) = ltb v 16777216
+metaFits rules (smpteOffset time) = isTime rules time
+metaFits rules (timeSignature a b c d) = ltb a 256 && ltb b 256 && ltb c 256 && ltb d 256
+metaFits rules (keySignature sharps minor) = ltb (mag sharps) 128
+metaFits rules (sequencerSpecific p) = true
+metaFits rules (unknown t p) = true
 
-unfoldable pub kindFits : {P : Type 0} → Kind P → Bool
-kindFits (midi channel message) = ltb channel 16 && messageFits message
-kindFits (sysEx p) = true
-kindFits (escape p) = true
-kindFits (meta m) = metaFits m
+unfoldable pub kindFits : {P : Type 0} → Rules → Kind P → Bool
+kindFits rules (midi channel message) = ltb channel 16 && messageFits rules message
+kindFits rules (sysEx p) = true
+kindFits rules (escape p) = true
+kindFits rules (meta m) = metaFits rules m
 
 -- what stands for the payload, of the kinds that carry one; else another
 unfoldable pub metaLoad : {P : Type 0} → P → Meta P → P
@@ -151,8 +151,8 @@ unfoldable pub bytesOf : List ℕ → Span → List ℕ
 bytesOf bytes span = take (span .length) (drop (span .start) bytes)
 
 -- document 01, refusal 23: types 00..09, 2F, 59, 7F always, and 20, 21, 51, 54, 58 at the lengths where they are named
-unfoldable pub isNamed : ℕ → ℕ → Bool
-isNamed t n =
+unfoldable pub isNamed : Rules → ℕ → ℕ → Bool
+isNamed rules t n =
     leb t 0x09
     || eqb t 0x2F
     || eqb t 0x59
@@ -164,33 +164,33 @@ isNamed t n =
     || (eqb t 0x58 && leb 4 n)
 
 -- an `Unknown` that would read as a named kind or be refused as 59, by its payload's length
-unfoldable pub metaMisnamed : {P : Type 0} → (P → ℕ) → Meta P → Bool
-metaMisnamed size (trackNumber n) = false
-metaMisnamed size noTrackNumber = false
-metaMisnamed size (text t p) = false
-metaMisnamed size (midiChannel c) = false
-metaMisnamed size (midiPort c) = false
-metaMisnamed size endOfTrack = false
-metaMisnamed size (tempo v) = false
-metaMisnamed size (smpteOffset time) = false
-metaMisnamed size (timeSignature a b c d) = false
-metaMisnamed size (keySignature sharps minor) = false
-metaMisnamed size (sequencerSpecific p) = false
-metaMisnamed size (unknown t p) = isNamed t (size p)
+unfoldable pub metaMisnamed : {P : Type 0} → Rules → (P → ℕ) → Meta P → Bool
+metaMisnamed rules size (trackNumber n) = false
+metaMisnamed rules size noTrackNumber = false
+metaMisnamed rules size (text t p) = false
+metaMisnamed rules size (midiChannel c) = false
+metaMisnamed rules size (midiPort c) = false
+metaMisnamed rules size endOfTrack = false
+metaMisnamed rules size (tempo v) = false
+metaMisnamed rules size (smpteOffset time) = false
+metaMisnamed rules size (timeSignature a b c d) = false
+metaMisnamed rules size (keySignature sharps minor) = false
+metaMisnamed rules size (sequencerSpecific p) = false
+metaMisnamed rules size (unknown t p) = isNamed rules t (size p)
 
-unfoldable pub kindMisnamed : {P : Type 0} → (P → ℕ) → Kind P → Bool
-kindMisnamed size (midi channel message) = false
-kindMisnamed size (sysEx p) = false
-kindMisnamed size (escape p) = false
-kindMisnamed size (meta m) = metaMisnamed size m
+unfoldable pub kindMisnamed : {P : Type 0} → Rules → (P → ℕ) → Kind P → Bool
+kindMisnamed rules size (midi channel message) = false
+kindMisnamed rules size (sysEx p) = false
+kindMisnamed rules size (escape p) = false
+kindMisnamed rules size (meta m) = metaMisnamed rules size m
 
 -- what is legal of the event itself
-unfoldable pub isLegal : Event (List ℕ) → Bool
-isLegal e =
+unfoldable pub isLegal : Rules → Event (List ℕ) → Bool
+isLegal rules e =
     ltb (e .delta) (2 ^ 28)
-    && kindFits (e .kind)
+    && kindFits rules (e .kind)
     && ltb (length (kindLoad [] (e .kind))) (2 ^ 28)
-    && not (kindMisnamed length (e .kind))
+    && not (kindMisnamed rules length (e .kind))
 
 abbrev pub noSpan : Span
 noSpan = record { start = 0; length = 0 }
@@ -201,10 +201,10 @@ spanLength span = span .length
 -- the event that a record is over given payload bytes: 18, 19, 22, 23 in that order where it is none
 unfoldable pub legal : Rules → List ℕ → Event Span → Answer (Event (List ℕ))
 legal rules bytes e =
-    pick (ltb (e .delta) (2 ^ 28) && kindFits (e .kind))
+    pick (ltb (e .delta) (2 ^ 28) && kindFits rules (e .kind))
     (pick (inside bytes (kindLoad noSpan (e .kind)))
     (pick (ltb (spanLength (kindLoad noSpan (e .kind))) (2 ^ 28))
-    (pick (kindMisnamed spanLength (e .kind)) (refuses 23) (gives (mapEvent (bytesOf bytes) e)))
+    (pick (kindMisnamed rules spanLength (e .kind)) (refuses 23) (gives (mapEvent (bytesOf bytes) e)))
     (refuses 22))
     (refuses 19))
     (refuses 18)

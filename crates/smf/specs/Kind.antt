@@ -82,8 +82,8 @@ narrow rules limit b = pick (ltb b limit) (gives b) (pick (rules .strict) (refus
 abbrev pub tempoOf : List ℕ → Meta (List ℕ)
 tempoOf p = tempo (byte p 0 * 65536 + byte p 1 * 256 + byte p 2)
 
-abbrev pub timeIn : List ℕ → Answer Time
-timeIn p = timeOf (byte p 0) (byte p 1) (byte p 2) (byte p 3) (byte p 4)
+abbrev pub timeIn : Rules → List ℕ → Answer Time
+timeIn rules p = timeOf rules (byte p 0) (byte p 1) (byte p 2) (byte p 3) (byte p 4)
 
 abbrev pub signatureOf : List ℕ → Meta (List ℕ)
 signatureOf p = timeSignature (byte p 0) (byte p 1) (byte p 2) (byte p 3)
@@ -101,7 +101,7 @@ calledMeta rules t p =
     (pick (eqb t 0x21) (from 1 t p (andThen (narrow rules 128 (byte p 0)) (λ c. gives (midiPort c))))
     (pick (eqb t 0x2F) (gives endOfTrack)
     (pick (eqb t 0x51) (from 3 t p (gives (tempoOf p)))
-    (pick (eqb t 0x54) (from 5 t p (andThen (timeIn p) (λ time. gives (smpteOffset time))))
+    (pick (eqb t 0x54) (from 5 t p (andThen (timeIn rules p) (λ time. gives (smpteOffset time))))
     (pick (eqb t 0x58) (from 4 t p (gives (signatureOf p)))
     (pick (eqb t 0x59) (pick (leb 2 (length p)) (gives (keyOf p)) (refuses 14))
     (pick (eqb t 0x7F) (gives (sequencerSpecific p))

@@ -110,9 +110,9 @@ pub record ReadsAs (rules : Rules) (most running : ℕ) (s : List ℕ) (es : Lis
 -- Writing
 
 -- each event of a list is legal; each record is, over given payload bytes
-abbrev pub AllLegal : List (Event (List ℕ)) → Type 0
-AllLegal [] = Unit {0}
-AllLegal (e ∷ es) = (isLegal e ≡ true) × AllLegal es
+abbrev pub AllLegal : Rules → List (Event (List ℕ)) → Type 0
+AllLegal rules [] = Unit {0}
+AllLegal rules (e ∷ es) = (isLegal rules e ≡ true) × AllLegal rules es
 
 abbrev pub RecordsLegal : Rules → List ℕ → List (Event Span) → Type 0
 RecordsLegal rules bytes [] = Unit {0}

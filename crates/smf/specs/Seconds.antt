@@ -4,7 +4,7 @@ use Prim.Native.Nat.{ℕ}
 use lib.Dec.{eqb}
 use lib.IntN.{pos}
 use lib.Ieee.{Float, binary32, add, div, round, ofInt}
-use Rattle.smf.specs.Answer.{pick, Answer, gives, refuses}
+use Rattle.smf.specs.Answer.{pick, Answer, gives, refuses, Rules}
 use Rattle.smf.specs.Smpte.{Time, isTime}
 
 -- a whole number as a float
@@ -26,5 +26,5 @@ secondFloat t =
     (div binary32 (add binary32 (whole (t .frame)) (div binary32 (whole (t .subframe)) (whole 100))) (rateFloat (t .rate)))
 
 -- document 01, refusal 13: the seconds of a time inside its ranges
-unfoldable pub secondsOf : Time → Answer Float
-secondsOf t = pick (isTime t) (gives (secondFloat t)) (refuses 13)
+unfoldable pub secondsOf : Rules → Time → Answer Float
+secondsOf rules t = pick (isTime rules t) (gives (secondFloat t)) (refuses 13)

@@ -4,7 +4,7 @@ use mathlib.Core.Bool.{Bool, _&&_, _||_}
 use mathlib.Core.List.{List, [], _∷_}
 use Prim.Native.Nat.{ℕ, _+_, _*_, _/_, _%_}
 use lib.Dec.{ltb, eqb}
-use Rattle.smf.specs.Answer.{pick, Answer, gives, refuses}
+use Rattle.smf.specs.Answer.{pick, Answer, gives, refuses, Rules}
 
 -- SMF: a rate is its number of frames in a second, 24, 25, 29 (30 drop-frame) or 30
 unfoldable pub isRate : ℕ → Bool
@@ -36,8 +36,8 @@ time hour minute second frame subframe rate =
     record { hour = hour; minute = minute; second = second; frame = frame; subframe = subframe; rate = rate }
 
 -- document 01: one of the rates; hour below 24, minute and second below 60, frame below the rate's number, subframe below 100
-unfoldable pub isTime : Time → Bool
-isTime t =
+unfoldable pub isTime : Rules → Time → Bool
+isTime rules t =
     isRate (t .rate)
     && ltb (t .hour) 24
     && ltb (t .minute) 60
@@ -46,13 +46,13 @@ isTime t =
     && ltb (t .subframe) 100
 
 -- document 01, refusal 13: a time outside its ranges, when one is built
-unfoldable pub toTime : Time → Answer Time
-toTime t = pick (isTime t) (gives t) (refuses 13)
+unfoldable pub toTime : Rules → Time → Answer Time
+toTime rules t = pick (isTime rules t) (gives t) (refuses 13)
 
 -- SMF and document 01: hour in bits 0..4 of the first byte, rate code in bits 5..6, bit 7 ignored; then the other fields, a byte each
-unfoldable pub timeOf : ℕ → ℕ → ℕ → ℕ → ℕ → Answer Time
-timeOf first minute second frame subframe =
-    toTime (time (first % 32) minute second frame subframe (rateOfCode (first / 32 % 4)))
+unfoldable pub timeOf : Rules → ℕ → ℕ → ℕ → ℕ → ℕ → Answer Time
+timeOf rules first minute second frame subframe =
+    toTime rules (time (first % 32) minute second frame subframe (rateOfCode (first / 32 % 4)))
 
 -- SMF: the five bytes of a time
 unfoldable pub timeBytes : Time → List ℕ
@@ -60,8 +60,8 @@ timeBytes t =
     (codeOfRate (t .rate) * 32 + t .hour) ∷ t .minute ∷ t .second ∷ t .frame ∷ t .subframe ∷ []
 
 -- document 01, refusal 18: the bytes that are written, of a time inside its ranges
-unfoldable pub encodeTime : Time → Answer (List ℕ)
-encodeTime t = pick (isTime t) (gives (timeBytes t)) (refuses 18)
+unfoldable pub encodeTime : Rules → Time → Answer (List ℕ)
+encodeTime rules t = pick (isTime rules t) (gives (timeBytes t)) (refuses 18)
 
 -- document 01: whole seconds since the day began
 unfoldable pub seconds : Time → ℕ
@@ -76,8 +76,8 @@ unfoldable pub subframes : Time → ℕ
 subframes t = frames t * 100 + t .subframe
 
 -- document 01: the position of a time, in subframes; 13 outside its ranges
-unfoldable pub position : Time → Answer ℕ
-position t = pick (isTime t) (gives (subframes t)) (refuses 13)
+unfoldable pub position : Rules → Time → Answer ℕ
+position rules t = pick (isTime rules t) (gives (subframes t)) (refuses 13)
 
 -- the order of times, field by field, hour first: the first field in which they differ decides
 unfoldable pub earlier : Time → Time → Bool

@@ -3,11 +3,13 @@ ghost use mathlib.Core.Path.{_≡_};
 ghost use lib.ListN.{getD};
 ghost use Rattle.smf.specs.Smpte.{time, isTime, toTime, timeOf, encodeTime, position};
 ghost use Rattle.smf.specs.Seconds.{secondsOf};
+ghost use Rattle.rules.specs.Rules.{rulesOf};
 ghost use Rattle.header.specs.Fps.{rateOf};
 ghost use Rattle.smpte.specs.Smpte.{smpteTimeOf, triedSmpteTime, encodedSmpteTime, askedSecond, askedPosition};
 use header::fps::Fps;
 use int::u2;
 use refusal::Refusal;
+use rules::Rules;
 
 pub struct SmpteTime {
     // below 24
@@ -55,8 +57,9 @@ impl SmpteTime {
         frame: u8,
         subframe: u8,
         fps: Fps,
+        rules: Rules,
     ) -> TriedSmpteTime
-        ensures { λ r. ⌜ triedSmpteTime r ≡ toTime (time hour minute second frame subframe (rateOf fps)) ⌝ }
+        ensures { λ r. ⌜ triedSmpteTime r ≡ toTime (rulesOf rules) (time hour minute second frame subframe (rateOf fps)) ⌝ }
     {
         let time = SmpteTime {
             hour,
@@ -66,7 +69,7 @@ impl SmpteTime {
             subframe,
             fps,
         };
-        if time.in_range() {
+        if time.in_range(rules) {
             TriedSmpteTime::Made(time)
         } else {
             TriedSmpteTime::Refused(Refusal::SmpteTime)
@@ -74,8 +77,8 @@ impl SmpteTime {
     }
 
     // Whether every field is inside its range.
-    pub fn in_range(self) -> bool
-        ensures { λ r. ⌜ r ≡ isTime (smpteTimeOf self) ⌝ }
+    pub fn in_range(self, rules: Rules) -> bool
+        ensures { λ r. ⌜ r ≡ isTime (rulesOf rules) (smpteTimeOf self) ⌝ }
     {
         let fps = self.fps;
         if 24 <= self.hour {
@@ -131,11 +134,11 @@ impl SmpteTime {
     }
 
     // Seconds with the frames and subframes as their fraction, without hours and minutes.
-    pub fn second_f32(self) -> AskedSecond
-        ensures { λ r. ⌜ askedSecond r ≡ secondsOf (smpteTimeOf self) ⌝ }
+    pub fn second_f32(self, rules: Rules) -> AskedSecond
+        ensures { λ r. ⌜ askedSecond r ≡ secondsOf (rulesOf rules) (smpteTimeOf self) ⌝ }
     {
         let fps = self.fps;
-        if !self.in_range() {
+        if !self.in_range(rules) {
             return AskedSecond::Refused(Refusal::SmpteTime);
         }
         let seconds = self.second as f32
@@ -144,11 +147,11 @@ impl SmpteTime {
     }
 
     // The place in the day, in subframes.
-    pub fn position(self) -> AskedPosition
-        ensures { λ r. ⌜ askedPosition r ≡ position (smpteTimeOf self) ⌝ }
+    pub fn position(self, rules: Rules) -> AskedPosition
+        ensures { λ r. ⌜ askedPosition r ≡ position (rulesOf rules) (smpteTimeOf self) ⌝ }
     {
         let fps = self.fps;
-        if !self.in_range() {
+        if !self.in_range(rules) {
             return AskedPosition::Refused(Refusal::SmpteTime);
         }
         let seconds = 3600 * self.hour as u32 + 60 * self.minute as u32 + self.second as u32;
@@ -158,20 +161,20 @@ impl SmpteTime {
     }
 
     // Hour and rate code share the first byte.
-    pub fn read(bytes: [u8; 5]) -> TriedSmpteTime
-        ensures { λ r. ⌜ triedSmpteTime r ≡ timeOf (getD bytes 0 0) (getD bytes 1 0) (getD bytes 2 0) (getD bytes 3 0) (getD bytes 4 0) ⌝ }
+    pub fn read(bytes: [u8; 5], rules: Rules) -> TriedSmpteTime
+        ensures { λ r. ⌜ triedSmpteTime r ≡ timeOf (rulesOf rules) (getD bytes 0 0) (getD bytes 1 0) (getD bytes 2 0) (getD bytes 3 0) (getD bytes 4 0) ⌝ }
     {
         let hour_fps = bytes[0];
         let hour = hour_fps & 0x1F;
         let fps = Fps::from_code(u2::new(hour_fps >> 5));
-        SmpteTime::new(hour, bytes[1], bytes[2], bytes[3], bytes[4], fps)
+        SmpteTime::new(hour, bytes[1], bytes[2], bytes[3], bytes[4], fps, rules)
     }
 
-    pub fn encode(self) -> EncodedSmpteTime
-        ensures { λ r. ⌜ encodedSmpteTime r ≡ encodeTime (smpteTimeOf self) ⌝ }
+    pub fn encode(self, rules: Rules) -> EncodedSmpteTime
+        ensures { λ r. ⌜ encodedSmpteTime r ≡ encodeTime (rulesOf rules) (smpteTimeOf self) ⌝ }
     {
         let fps = self.fps;
-        if !self.in_range() {
+        if !self.in_range(rules) {
             return EncodedSmpteTime::Refused(Refusal::AboveWidth);
         }
         let hour_fps = self.hour | fps.as_code().as_int() << 5;

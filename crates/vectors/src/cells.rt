@@ -4,6 +4,9 @@ use crate::line::CELLS;
 // The most bytes that a line has, given or written.
 pub const BYTES: usize = 1024;
 
+// The rules of a call that a line gives none for: no bit is set, and none would be looked at.
+pub const NO_RULES: u8 = 0;
+
 // The cells of a list's rows: 128 of ten.
 pub const ROWS: usize = 1280;
 

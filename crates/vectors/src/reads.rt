@@ -1,5 +1,6 @@
 // What is asked without a buffer to write into. Each puts the numbers that the port answers into `found`, and says how
 // many they are. Values that the port is to set hold A5 before, and still do where it refuses.
+use crate::cells::NO_RULES;
 use crate::cells::ROWS;
 use crate::cells::number;
 use crate::cells::number_byte;
@@ -25,7 +26,7 @@ use loader_smpte::apk_smpte_new;
 use loader_smpte::apk_smpte_position;
 use loader_smpte::apk_smpte_read;
 
-// Strict, place.
+// Rules, place.
 fn number_read(given: &[u64], bytes: &[u8], found: &mut [u64; CELLS]) -> usize {
     let mut value: u32 = 0xA5;
     let mut next: usize = 0xA5;
@@ -41,7 +42,7 @@ fn number_read(given: &[u64], bytes: &[u8], found: &mut [u64; CELLS]) -> usize {
     3
 }
 
-// Strict, place.
+// Rules, place.
 fn payload_read(given: &[u64], bytes: &[u8], found: &mut [u64; CELLS]) -> usize {
     let mut start: usize = 0xA5;
     let mut length: usize = 0xA5;
@@ -70,7 +71,7 @@ fn put_row(row: [u64; 10], found: &mut [u64; CELLS]) {
     found[12] = row[9];
 }
 
-// Strict, running status, place. The row is answered where it is accepted.
+// Rules, running status, place. The row is answered where it is accepted.
 fn event_read(given: &[u64], bytes: &[u8], found: &mut [u64; CELLS]) -> usize {
     let mut row = [0xA5u64; 10];
     let mut used: usize = 0xA5;
@@ -94,7 +95,7 @@ fn event_read(given: &[u64], bytes: &[u8], found: &mut [u64; CELLS]) -> usize {
     3
 }
 
-// Strict, running status, place.
+// Rules, running status, place.
 fn list_read(given: &[u64], bytes: &[u8], found: &mut [u64; CELLS]) -> usize {
     let mut count: usize = 0xA5;
     let mut at: usize = 0xA5;
@@ -194,6 +195,7 @@ fn time_read(given: &[u64], found: &mut [u64; CELLS]) -> usize {
         number_byte(given, 2),
         number_byte(given, 3),
         number_byte(given, 4),
+        NO_RULES,
         &mut six,
     ));
     found[1] = wide(six[0]);
@@ -214,6 +216,7 @@ fn time_written(given: &[u64], found: &mut [u64; CELLS]) {
         number_byte(given, 3),
         number_byte(given, 4),
         number_byte(given, 5),
+        NO_RULES,
         &mut bytes,
     ));
     found[4] = wide(bytes[0]);
@@ -232,8 +235,17 @@ fn time(given: &[u64], found: &mut [u64; CELLS]) -> usize {
     let subframe = number_byte(given, 4);
     let rate = number_byte(given, 5);
     let mut position: u32 = 0xA5;
-    found[0] = wide(apk_smpte_new(hour, minute, second, frame, subframe, rate));
-    found[1] = wide(apk_smpte_position(hour, minute, second, frame, subframe, rate, &mut position));
+    found[0] = wide(apk_smpte_new(hour, minute, second, frame, subframe, rate, NO_RULES));
+    found[1] = wide(apk_smpte_position(
+        hour,
+        minute,
+        second,
+        frame,
+        subframe,
+        rate,
+        NO_RULES,
+        &mut position,
+    ));
     found[2] = position as u64;
     time_written(given, found);
     9

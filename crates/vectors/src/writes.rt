@@ -1,4 +1,5 @@
 // What is asked of writers: into a lent buffer of so many bytes, each A5, all of which are answered behind the numbers.
+use crate::cells::NO_RULES;
 use crate::cells::number;
 use crate::cells::number_byte;
 use crate::cells::part;
@@ -48,13 +49,14 @@ fn event_written(given: &[u64], bytes: &[u8], out: &mut [u8], found: &mut [u64; 
     let mut after: u8 = 0xA5;
     let mut length: usize = 0xA5;
     let mut ended: u8 = 0xA5;
-    found[0] = wide(apk_event_length(&event, bytes, running, &mut length, &mut ended));
+    found[0] = wide(apk_event_length(&event, bytes, running, NO_RULES, &mut length, &mut ended));
     found[1] = length as u64;
     found[2] = wide(ended);
     found[3] = wide(apk_event_write(
         &event,
         bytes,
         running,
+        NO_RULES,
         out,
         place(given, 1),
         &mut next,
@@ -74,6 +76,7 @@ fn list_measured(cells: &[u64], count: usize, bytes: &[u8], running: u8, found: 
         count,
         bytes,
         running,
+        NO_RULES,
         &mut length,
         &mut after,
         &mut index,
@@ -97,6 +100,7 @@ fn list_written(given: &[u64], bytes: &[u8], out: &mut [u8], found: &mut [u64; C
         count,
         bytes,
         running,
+        NO_RULES,
         out,
         &mut length,
         &mut after,

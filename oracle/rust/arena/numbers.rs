@@ -76,15 +76,15 @@ impl Numbers {
         }
     }
 
-    /// A sample of strings of up to twelve bytes, with every strict flag that is not 0.
+    /// A sample of strings of up to twelve bytes, with every set of bits for the rules, of which bit 0 alone counts.
     fn longer_strings(&mut self, count: usize) {
         for _ in 0..count {
             let mut whole = [0; 12];
             whole.iter_mut().for_each(|byte| *byte = self.random.byte());
             let length = self.random.below(13);
             let at = self.random.below(length + 2);
-            let strict = if STRICT == 0 { 0 } else { 1 + self.random.below(255) as u8 };
-            self.reads(&whole[..length], at, strict);
+            let rules = 2 * self.random.below(128) as u8 + STRICT;
+            self.reads(&whole[..length], at, rules);
         }
     }
 
@@ -219,23 +219,23 @@ fn around(edge: u32) -> impl Iterator<Item = u32> {
 // ---- one comparison each
 
 impl Numbers {
-    fn reads(&mut self, bytes: &[u8], at: usize, strict: u8) {
-        self.number_read(bytes, at, strict);
-        self.payload_read(bytes, at, strict);
+    fn reads(&mut self, bytes: &[u8], at: usize, rules: u8) {
+        self.number_read(bytes, at, rules);
+        self.payload_read(bytes, at, rules);
     }
 
-    fn number_read(&mut self, bytes: &[u8], at: usize, strict: u8) {
+    fn number_read(&mut self, bytes: &[u8], at: usize, rules: u8) {
         let whole = from(bytes, at);
         let mut rest = whole;
         let rust = match u28::read_u7(&mut rest) {
             Ok(number) => (0, (Some(number.as_int()), Some(at + (whole.len() - rest.len())))),
             Err(kind) => (refusal::of_kind(kind), (None, None)),
         };
-        let port = port::number_read(bytes, at, strict);
-        self.read.compare(rust, port, bytes.len(), || told(bytes, at, strict));
+        let port = port::number_read(bytes, at, rules);
+        self.read.compare(rust, port, bytes.len(), || told(bytes, at, rules));
     }
 
-    fn payload_read(&mut self, bytes: &[u8], at: usize, strict: u8) {
+    fn payload_read(&mut self, bytes: &[u8], at: usize, rules: u8) {
         let whole = from(bytes, at);
         let mut rest = whole;
         let rust = match read_varlen_slice(&mut rest) {
@@ -243,8 +243,8 @@ impl Numbers {
             Ok(slice) => (0, (Some(at + (whole.len() - rest.len()) - slice.len()), Some(slice.len()))),
             Err(error) => (refusal::of(&error), (None, None)),
         };
-        let port = port::payload_read(bytes, at, strict);
-        self.payload_read.compare(rust, port, bytes.len(), || told(bytes, at, strict));
+        let port = port::payload_read(bytes, at, rules);
+        self.payload_read.compare(rust, port, bytes.len(), || told(bytes, at, rules));
     }
 
     fn number_length(&mut self, value: u32) {
@@ -332,6 +332,6 @@ fn number_length(value: u32) -> usize {
     }
 }
 
-fn told(bytes: &[u8], at: usize, strict: u8) -> String {
-    format!("{:?} at {}, strict {}", Bytes(bytes), at, strict)
+fn told(bytes: &[u8], at: usize, rules: u8) -> String {
+    format!("{:?} at {}, rules {}", Bytes(bytes), at, rules)
 }

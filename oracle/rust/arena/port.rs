@@ -5,27 +5,27 @@
 // Rust on x86-64 would take them for zeros.
 extern "C" {
     fn apk_number_read(
-        bytes: *const u8, length: usize, at: usize, strict: u8, value: *mut u32, next: *mut usize,
+        bytes: *const u8, length: usize, at: usize, rules: u8, value: *mut u32, next: *mut usize,
     ) -> u32;
     fn apk_number_length(value: u32) -> usize;
     fn apk_number_write(value: u32, out: *mut u8, length: usize, at: usize, next: *mut usize) -> u32;
     fn apk_payload_read(
-        bytes: *const u8, length: usize, at: usize, strict: u8, start: *mut usize, found: *mut usize,
+        bytes: *const u8, length: usize, at: usize, rules: u8, start: *mut usize, found: *mut usize,
     ) -> u32;
     fn apk_payload_write(
         payload: *const u8, payload_length: usize, start: usize, length: usize,
         out: *mut u8, out_length: usize, at: usize, next: *mut usize,
     ) -> u32;
     fn apk_event_read(
-        bytes: *const u8, length: usize, at: usize, running: u8, strict: u8,
+        bytes: *const u8, length: usize, at: usize, running: u8, rules: u8,
         row: *mut [u64; 10], used: *mut usize, after: *mut u8,
     ) -> u32;
     fn apk_event_length(
-        row: *const [u64; 10], payload: *const u8, payload_length: usize, running: u8,
+        row: *const [u64; 10], payload: *const u8, payload_length: usize, running: u8, rules: u8,
         length: *mut usize, after: *mut u8,
     ) -> u32;
     fn apk_event_write(
-        row: *const [u64; 10], payload: *const u8, payload_length: usize, running: u8,
+        row: *const [u64; 10], payload: *const u8, payload_length: usize, running: u8, rules: u8,
         out: *mut u8, out_length: usize, at: usize, next: *mut usize, after: *mut u8,
     ) -> u32;
     fn apk_event_same(
@@ -33,15 +33,17 @@ extern "C" {
         row_b: *const [u64; 10], bytes_b: *const u8, length_b: usize,
     ) -> u32;
     fn apk_list_read(
-        bytes: *const u8, length: usize, at: usize, running: u8, strict: u8,
+        bytes: *const u8, length: usize, at: usize, running: u8, rules: u8,
         rows: *mut u64, cells: usize, count: *mut usize, place: *mut usize, after: *mut u8,
     ) -> u32;
     fn apk_list_length(
-        rows: *const u64, cells: usize, count: usize, payload: *const u8, payload_length: usize, running: u8,
+        rows: *const u64, cells: usize, count: usize, payload: *const u8, payload_length: usize,
+        running: u8, rules: u8,
         length: *mut usize, after: *mut u8, index: *mut usize,
     ) -> u32;
     fn apk_list_write(
-        rows: *const u64, cells: usize, count: usize, payload: *const u8, payload_length: usize, running: u8,
+        rows: *const u64, cells: usize, count: usize, payload: *const u8, payload_length: usize,
+        running: u8, rules: u8,
         out: *mut u8, out_length: usize, length: *mut usize, after: *mut u8, index: *mut usize,
     ) -> u32;
     fn apk_list_same(
@@ -56,16 +58,20 @@ extern "C" {
     fn apk_fps_as_code(rate: u8, code: *mut u8) -> u32;
     fn apk_fps_from_int(raw: u8, rate: *mut u8) -> u32;
     fn apk_fps_as_f32(rate: u8, frames: *mut f32) -> u32;
-    fn apk_smpte_new(hour: u8, minute: u8, second: u8, frame: u8, subframe: u8, rate: u8) -> u32;
-    fn apk_smpte_read(first: u8, minute: u8, second: u8, frame: u8, subframe: u8, time: *mut [u8; 6]) -> u32;
+    fn apk_smpte_new(
+        hour: u8, minute: u8, second: u8, frame: u8, subframe: u8, rate: u8, rules: u8,
+    ) -> u32;
+    fn apk_smpte_read(
+        first: u8, minute: u8, second: u8, frame: u8, subframe: u8, rules: u8, time: *mut [u8; 6],
+    ) -> u32;
     fn apk_smpte_encode(
-        hour: u8, minute: u8, second: u8, frame: u8, subframe: u8, rate: u8, bytes: *mut [u8; 5],
+        hour: u8, minute: u8, second: u8, frame: u8, subframe: u8, rate: u8, rules: u8, bytes: *mut [u8; 5],
     ) -> u32;
     fn apk_smpte_second_f32(
-        hour: u8, minute: u8, second: u8, frame: u8, subframe: u8, rate: u8, seconds: *mut f32,
+        hour: u8, minute: u8, second: u8, frame: u8, subframe: u8, rate: u8, rules: u8, seconds: *mut f32,
     ) -> u32;
     fn apk_smpte_position(
-        hour: u8, minute: u8, second: u8, frame: u8, subframe: u8, rate: u8, subframes: *mut u32,
+        hour: u8, minute: u8, second: u8, frame: u8, subframe: u8, rate: u8, rules: u8, subframes: *mut u32,
     ) -> u32;
     fn apk_bend_min_raw_value() -> u32;
     fn apk_bend_mid_raw_value() -> u32;
@@ -77,6 +83,9 @@ extern "C" {
     fn apk_bend_as_f32(raw: u16, float: *mut f32) -> u32;
     fn apk_bend_as_f64(raw: u16, float: *mut f64) -> u32;
 }
+
+/// The rules of a call, a set of bits: strict where the Rust beside it is.
+const RULES: u8 = cfg!(feature = "strict") as u8;
 
 /// What a value holds before a call. No request makes an entry set it to this.
 const BEFORE: usize = usize::MAX - 0x5A5A;
@@ -90,9 +99,9 @@ fn set_32(value: u32) -> Option<u32> {
     Some(value).filter(|value| *value != BEFORE_32)
 }
 
-pub fn number_read(bytes: &[u8], at: usize, strict: u8) -> (u8, (Option<u32>, Option<usize>)) {
+pub fn number_read(bytes: &[u8], at: usize, rules: u8) -> (u8, (Option<u32>, Option<usize>)) {
     let (mut value, mut next) = (BEFORE_32, BEFORE);
-    let answer = unsafe { apk_number_read(bytes.as_ptr(), bytes.len(), at, strict, &mut value, &mut next) };
+    let answer = unsafe { apk_number_read(bytes.as_ptr(), bytes.len(), at, rules, &mut value, &mut next) };
     (answer as u8, (set_32(value), set(next)))
 }
 
@@ -106,9 +115,9 @@ pub fn number_write(value: u32, out: &mut [u8], at: usize) -> (u8, Option<usize>
     (answer as u8, set(next))
 }
 
-pub fn payload_read(bytes: &[u8], at: usize, strict: u8) -> (u8, (Option<usize>, Option<usize>)) {
+pub fn payload_read(bytes: &[u8], at: usize, rules: u8) -> (u8, (Option<usize>, Option<usize>)) {
     let (mut start, mut found) = (BEFORE, BEFORE);
-    let answer = unsafe { apk_payload_read(bytes.as_ptr(), bytes.len(), at, strict, &mut start, &mut found) };
+    let answer = unsafe { apk_payload_read(bytes.as_ptr(), bytes.len(), at, rules, &mut start, &mut found) };
     (answer as u8, (set(start), set(found)))
 }
 
@@ -178,30 +187,30 @@ pub fn fps_as_f32(rate: u8) -> (u8, u32) {
 pub type Six = [u8; 6];
 
 pub fn smpte_new([hour, minute, second, frame, subframe, rate]: Six) -> u8 {
-    unsafe { apk_smpte_new(hour, minute, second, frame, subframe, rate) as u8 }
+    unsafe { apk_smpte_new(hour, minute, second, frame, subframe, rate, RULES) as u8 }
 }
 
 pub fn smpte_read([first, minute, second, frame, subframe]: [u8; 5]) -> (u8, Six) {
     let mut time = [HELD as u8; 6];
-    let answer = unsafe { apk_smpte_read(first, minute, second, frame, subframe, &mut time) };
+    let answer = unsafe { apk_smpte_read(first, minute, second, frame, subframe, RULES, &mut time) };
     (answer as u8, time)
 }
 
 pub fn smpte_encode([hour, minute, second, frame, subframe, rate]: Six) -> (u8, [u8; 5]) {
     let mut bytes = [HELD as u8; 5];
-    let answer = unsafe { apk_smpte_encode(hour, minute, second, frame, subframe, rate, &mut bytes) };
+    let answer = unsafe { apk_smpte_encode(hour, minute, second, frame, subframe, rate, RULES, &mut bytes) };
     (answer as u8, bytes)
 }
 
 pub fn smpte_second_f32([hour, minute, second, frame, subframe, rate]: Six) -> (u8, u32) {
     let mut seconds = f32::from_bits(HELD as u32);
-    let answer = unsafe { apk_smpte_second_f32(hour, minute, second, frame, subframe, rate, &mut seconds) };
+    let answer = unsafe { apk_smpte_second_f32(hour, minute, second, frame, subframe, rate, RULES, &mut seconds) };
     (answer as u8, seconds.to_bits())
 }
 
 pub fn smpte_position([hour, minute, second, frame, subframe, rate]: Six) -> (u8, u32) {
     let mut subframes = HELD as u32;
-    let answer = unsafe { apk_smpte_position(hour, minute, second, frame, subframe, rate, &mut subframes) };
+    let answer = unsafe { apk_smpte_position(hour, minute, second, frame, subframe, rate, RULES, &mut subframes) };
     (answer as u8, subframes)
 }
 
@@ -246,9 +255,8 @@ const ROW: [u64; 10] = [u64::MAX; 10];
 /// The answer, and the row, the bytes used and the running status after.
 pub fn event_read(bytes: &[u8], at: usize, running: u8) -> (u8, (Option<[u64; 10]>, usize, u8)) {
     let (mut row, mut used, mut after) = (ROW, BEFORE, 0xFF);
-    let strict = cfg!(feature = "strict") as u8;
     let answer = unsafe {
-        apk_event_read(bytes.as_ptr(), bytes.len(), at, running, strict, &mut row, &mut used, &mut after)
+        apk_event_read(bytes.as_ptr(), bytes.len(), at, running, RULES, &mut row, &mut used, &mut after)
     };
     (answer as u8, (Some(row).filter(|row| *row != ROW), used, after))
 }
@@ -257,7 +265,7 @@ pub fn event_read(bytes: &[u8], at: usize, running: u8) -> (u8, (Option<[u64; 10
 pub fn event_length(row: &[u64; 10], payload: &[u8], running: u8) -> (u8, (Option<usize>, Option<u8>)) {
     let (mut length, mut after) = (BEFORE, 0xFF);
     let answer =
-        unsafe { apk_event_length(row, payload.as_ptr(), payload.len(), running, &mut length, &mut after) };
+        unsafe { apk_event_length(row, payload.as_ptr(), payload.len(), running, RULES, &mut length, &mut after) };
     (answer as u8, (set(length), Some(after).filter(|after| *after != 0xFF)))
 }
 
@@ -268,7 +276,8 @@ pub fn event_write(
     let (mut next, mut after) = (BEFORE, 0xFF);
     let answer = unsafe {
         apk_event_write(
-            row, payload.as_ptr(), payload.len(), running, out.as_mut_ptr(), out.len(), at, &mut next, &mut after,
+            row, payload.as_ptr(), payload.len(), running, RULES, out.as_mut_ptr(), out.len(), at,
+            &mut next, &mut after,
         )
     };
     (answer as u8, (set(next), after))
@@ -282,10 +291,9 @@ pub fn event_same(a: &[u64; 10], bytes_a: &[u8], b: &[u64; 10], bytes_b: &[u8]) 
 /// The answer, and the count, the place and the running status there, which holds 0xFF before.
 pub fn list_read(bytes: &[u8], at: usize, running: u8, rows: &mut [u64]) -> (u8, (Option<usize>, Option<usize>, u8)) {
     let (mut count, mut place, mut after) = (BEFORE, BEFORE, 0xFF);
-    let strict = cfg!(feature = "strict") as u8;
     let answer = unsafe {
         apk_list_read(
-            bytes.as_ptr(), bytes.len(), at, running, strict,
+            bytes.as_ptr(), bytes.len(), at, running, RULES,
             rows.as_mut_ptr(), rows.len(), &mut count, &mut place, &mut after,
         )
     };
@@ -307,7 +315,8 @@ pub fn list_length(sheet: Sheet, running: u8) -> (u8, Laid) {
     let (mut length, mut after, mut index) = (BEFORE, 0xFF, BEFORE);
     let answer = unsafe {
         apk_list_length(
-            sheet.rows.as_ptr(), sheet.rows.len(), sheet.count, sheet.payload.as_ptr(), sheet.payload.len(), running,
+            sheet.rows.as_ptr(), sheet.rows.len(), sheet.count, sheet.payload.as_ptr(), sheet.payload.len(),
+            running, RULES,
             &mut length, &mut after, &mut index,
         )
     };
@@ -318,7 +327,8 @@ pub fn list_write(sheet: Sheet, running: u8, out: &mut [u8]) -> (u8, Laid) {
     let (mut length, mut after, mut index) = (BEFORE, 0xFF, BEFORE);
     let answer = unsafe {
         apk_list_write(
-            sheet.rows.as_ptr(), sheet.rows.len(), sheet.count, sheet.payload.as_ptr(), sheet.payload.len(), running,
+            sheet.rows.as_ptr(), sheet.rows.len(), sheet.count, sheet.payload.as_ptr(), sheet.payload.len(),
+            running, RULES,
             out.as_mut_ptr(), out.len(), &mut length, &mut after, &mut index,
         )
     };

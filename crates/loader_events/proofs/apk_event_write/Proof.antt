@@ -4,8 +4,8 @@ use borrow.Author.Needs.{needs}
 use Rattle.loader_events.proofs.apk_event_write.Statement.{statement}
 use Rattle.loader_events.proofs.apk_event_write.Tie as tie
 
-any-rules-requires : tie.Need-any-rules-requires
-any-rules-requires c κs = search needs
+rules-requires : tie.Need-rules-requires
+rules-requires c κs = search needs
 
 write-row-requires : tie.Need-write-row-requires
 write-row-requires c κs = search needs
@@ -23,19 +23,19 @@ same-length : tie.Need-same-length
 same-length c = search needs
 
 returns : tie.Need-returns
-returns c = simp (← c .before .before .before .before .before .before .before .before .any-rules .ensures, ← c .before .before .before .before .before .before .write-row .ensures, c .before .before .refusal .given .1) (c .number .ensures, (refl, (refl, refl)))
+returns c = simp (← c .before .before .before .before .before .before .before .before .rules .ensures, ← c .before .before .before .before .before .before .write-row .ensures, c .before .before .refusal .given .1) (c .number .ensures, (refl, (refl, refl)))
 
 same-length-2 : tie.Need-same-length-2
 same-length-2 c = search needs
 
 returns-2 : tie.Need-returns-2
-returns-2 c = simp (← c .before .before .before .before .before .before .before .any-rules .ensures, ← c .before .before .before .before .before .write-row .ensures, c .before .past .given .1) (refl, (refl, (refl, refl)))
+returns-2 c = simp (← c .before .before .before .before .before .before .before .rules .ensures, ← c .before .before .before .before .before .write-row .ensures, c .before .past .given .1) (refl, (refl, (refl, refl)))
 
 pub apk-event-write-spec : {M : Type 1} → statement M
 apk-event-write-spec =
     tie.close
     (tie.spec
-    any-rules-requires
+    rules-requires
     write-row-requires
     enum-known-refusal
     number-requires

@@ -15,6 +15,9 @@ number-requires c κs = search needs
 enum-known-fps : tie.Need-enum-known-fps
 enum-known-fps c = search needs
 
+rules-requires : tie.Need-rules-requires
+rules-requires c κs = search needs
+
 new-requires : tie.Need-new-requires
 new-requires c κs = search needs
 
@@ -31,10 +34,10 @@ returns : tie.Need-returns
 returns c = simp (← c .number .ensures, c .before .before .refusal .given .1, ← c .before .before .before .before .from-int .ensures)
 
 returns-2 : tie.Need-returns-2
-returns-2 c = simp (← c .number2 .ensures, c .before .before .refusal2 .given .1, ← c .before .before .before .before .new .ensures, c .before .before .before .before .before .before .fps .given .1, ← c .before .before .before .before .before .before .before .before .from-int .ensures)
+returns-2 c = simp (← c .number2 .ensures, c .before .before .refusal2 .given .1, ← c .before .before .before .before .new .ensures, ← c .before .before .before .before .before .rules .ensures, c .before .before .before .before .before .before .before .fps .given .1, ← c .before .before .before .before .before .before .before .before .before .from-int .ensures)
 
 returns-3 : tie.Need-returns-3
-returns-3 c = simp (c .enum-told .given .1, ← c .before .before .new .ensures, c .before .before .before .before .fps .given .1, ← c .before .before .before .before .before .before .from-int .ensures)
+returns-3 c = simp (c .enum-told .given .1, ← c .before .before .new .ensures, ← c .before .before .before .rules .ensures, c .before .before .before .before .before .fps .given .1, ← c .before .before .before .before .before .before .before .from-int .ensures)
 
 pub apk-smpte-new-spec : {M : Type 1} → statement M
 apk-smpte-new-spec =
@@ -44,6 +47,7 @@ apk-smpte-new-spec =
     enum-known-refusal
     number-requires
     enum-known-fps
+    rules-requires
     new-requires
     enum-known-refusal-2
     number-requires-2

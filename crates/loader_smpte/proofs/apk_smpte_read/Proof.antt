@@ -4,6 +4,9 @@ use borrow.Author.Needs.{needs}
 use Rattle.loader_smpte.proofs.apk_smpte_read.Statement.{statement}
 use Rattle.loader_smpte.proofs.apk_smpte_read.Tie as tie
 
+rules-requires : tie.Need-rules-requires
+rules-requires c κs = search needs
+
 read-requires : tie.Need-read-requires
 read-requires c κs = search needs
 
@@ -38,15 +41,16 @@ as-int-requires : tie.Need-as-int-requires
 as-int-requires c κs = search needs
 
 returns : tie.Need-returns
-returns c = simp (← c .number .ensures, c .before .before .refusal .given .1, ← c .before .before .before .before .read .ensures) (refl, refl)
+returns c = simp (← c .number .ensures, c .before .before .refusal .given .1, ← c .before .before .before .before .read .ensures, ← c .before .before .before .before .before .rules .ensures) (refl, refl)
 
 returns-2 : tie.Need-returns-2
-returns-2 c = simp (← c .before .as-int .ensures, ← c .before .before .fps .ensures, ← c .before .before .before .subframe .ensures, ← c .before .before .before .before .frame .ensures, ← c .before .before .before .before .before .second .ensures, ← c .before .before .before .before .before .before .minute .ensures, ← c .before .before .before .before .before .before .before .hour .ensures, c .before .before .before .before .before .before .before .before .before .found .given .1, ← c .before .before .before .before .before .before .before .before .before .before .before .read .ensures) (refl, refl)
+returns-2 c = simp (← c .before .as-int .ensures, ← c .before .before .fps .ensures, ← c .before .before .before .subframe .ensures, ← c .before .before .before .before .frame .ensures, ← c .before .before .before .before .before .second .ensures, ← c .before .before .before .before .before .before .minute .ensures, ← c .before .before .before .before .before .before .before .hour .ensures, c .before .before .before .before .before .before .before .before .before .found .given .1, ← c .before .before .before .before .before .before .before .before .before .before .before .read .ensures, ← c .before .before .before .before .before .before .before .before .before .before .before .before .rules .ensures) (refl, refl)
 
 pub apk-smpte-read-spec : {M : Type 1} → statement M
 apk-smpte-read-spec =
     tie.close
     (tie.spec
+    rules-requires
     read-requires
     enum-known-refusal
     number-requires

@@ -34,7 +34,7 @@ returns c =
     let f = c .before .before .refusal .given in
     let r = c .before .before .before .before .before .before in
     let a = r .before .before .before .before .before .args in
-    let l = listGiven (a .strict) (a .running) (a .bytes .now) (a .at) in
+    let l = listGiven (a .bits) (a .running) (a .bytes .now) (a .at) in
     let e = rw (r .before .before .rules .ensures, f .1) at (r .read-rows .ensures) in
     let there = rows-refused l (sheetPut l (a .rows .now) .answer) (numberOf (f .0 .0)) (ap (λ (s : SheetRead). s .answer) e) in
     rw (← there) (c .number .ensures, (ap (λ (s : SheetRead). s .cells) e, (refl, (refl, refl))))
@@ -47,7 +47,7 @@ returns-2 c =
     let f = c .before .before .read .given in
     let r = c .before .before .before .before .before .before in
     let a = r .before .before .before .before .before .args in
-    let l = listGiven (a .strict) (a .running) (a .bytes .now) (a .at) in
+    let l = listGiven (a .bits) (a .running) (a .bytes .now) (a .at) in
     let e = rw (r .before .before .rules .ensures, f .1) at (r .read-rows .ensures) in
     let there = rows-read l (sheetPut l (a .rows .now) .answer) (rowsRead (f .0 .0)) (ap (λ (s : SheetRead). s .answer) e) in
     rw (← there .1)

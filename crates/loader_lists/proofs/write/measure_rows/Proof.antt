@@ -4,53 +4,49 @@ use Prim.Native.Nat.{_-_, _≤_, _<_}
 use native.Mathlib.Omega.{arith}
 use lib.ListN.{length, getD}
 use borrow.Author.Needs.{needs}
-use Rattle.smf.specs.Answer.{Rules}
 use Rattle.smf.specs.Lists.{filler}
 use Rattle.measure.specs.Length.{lengthSaid, eventSize}
 use Rattle.rows_back.specs.RowEvent.{rowEvent}
 use Rattle.sheet_back.specs.SheetList.{sheetEvents}
 use Rattle.sheet_back.proofs.Lifting.{events-length, event-there}
 use Rattle.lengths.proofs.Measuring.{Seen, seen-first, seen-last, seen-illegal, seen-most, seen-more}
-use Rattle.loader.specs.Entry.{anyRules}
+use Rattle.rules.specs.Rules.{rulesOf}
 use Rattle.loader_lists.proofs.write.measure_rows.Statement.{statement}
 use Rattle.loader_lists.proofs.write.measure_rows.Tie as tie
 
 abbrev Inv-loop : tie.InvT-loop
-Inv-loop rows count payload rules n₀ status₀ i₀ n status i = (i ≤ count) × Seen anyRules payload status₀ (sheetEvents count rows) n status i
+Inv-loop rows count payload rules n₀ status₀ i₀ n status i = (i ≤ count) × Seen (rulesOf rules) payload status₀ (sheetEvents count rows) n status i
 
 abbrev μ-loop : tie.MeasureT-loop
 μ-loop rows count payload rules n₀ status₀ i₀ n status i = count - i
-
-any-rules-requires : tie.Need-any-rules-requires Inv-loop μ-loop
-any-rules-requires c κs = search needs
 
 loop-holds : tie.Need-loop-holds Inv-loop μ-loop
 loop-holds c = (omega arith, seen-first _ _ _ _)
 
 row-of-requires : tie.Need-row-of-requires Inv-loop μ-loop
-row-of-requires c κs = omega (arith, c .before .before .before .before .before .pre .0)
+row-of-requires c κs = omega (arith, c .before .before .before .before .pre .0)
 
 measure-row-requires : tie.Need-measure-row-requires Inv-loop μ-loop
 measure-row-requires c κs = search needs
 
 -- the row that is measured is an event of the list
-inside : (c : tie.After-measure-row Inv-loop μ-loop) → let l = c .before .before .before .loop in let a = c .before .before .before .before .before .before .before .args in l .index < length (sheetEvents (a .count) (a .rows .now))
+inside : (c : tie.After-measure-row Inv-loop μ-loop) → let l = c .before .before .before .loop in let a = c .before .before .before .before .before .before .args in l .index < length (sheetEvents (a .count) (a .rows .now))
 inside c =
-    let a = c .before .before .before .before .before .before .before .args in
+    let a = c .before .before .before .before .before .before .args in
     omega (arith, events-length (a .count) (a .rows .now), c .before .before .loop-test .taken)
 
-there : (c : tie.After-measure-row Inv-loop μ-loop) → let l = c .before .before .before .loop in let a = c .before .before .before .before .before .before .before .args in
+there : (c : tie.After-measure-row Inv-loop μ-loop) → let l = c .before .before .before .loop in let a = c .before .before .before .before .before .before .args in
     getD (sheetEvents (a .count) (a .rows .now)) (l .index) filler ≡ rowEvent (c .before .row-of .result)
 there c =
-    let s = c .before .before .before .before .before .before .before in
+    let s = c .before .before .before .before .before .before in
     event-there (s .args .count) (s .args .rows .now) (c .before .before .before .loop .index) filler (s .pre .1) (c .before .before .loop-test .taken) ∙ ap rowEvent (sym (c .before .row-of .ensures))
 
-said : (c : tie.After-measure-row Inv-loop μ-loop) → let l = c .before .before .before .loop in let a = c .before .before .before .before .before .before .before .args in
-    lengthSaid (c .measure-row .result) ≡ eventSize anyRules (l .status) (a .payload .now) (rowEvent (c .before .row-of .result))
+said : (c : tie.After-measure-row Inv-loop μ-loop) → let l = c .before .before .before .loop in let a = c .before .before .before .before .before .before .args in
+    lengthSaid (c .measure-row .result) ≡ eventSize (rulesOf (a .rules)) (l .status) (a .payload .now) (rowEvent (c .before .row-of .result))
 said c =
     let l = c .before .before .before .loop in
-    let a = c .before .before .before .before .before .before .before .args in
-    c .measure-row .ensures ∙ ap (λ (r : Rules). eventSize r (l .status) (a .payload .now) (rowEvent (c .before .row-of .result))) (c .before .before .before .before .any-rules .ensures)
+    let a = c .before .before .before .before .before .before .args in
+    c .measure-row .ensures
 
 enum-known-refusal : tie.Need-enum-known-refusal Inv-loop μ-loop
 enum-known-refusal c = search needs
@@ -59,8 +55,8 @@ returns : tie.Need-returns Inv-loop μ-loop
 returns c =
     let m = c .before .before .before in
     let l = m .before .before .before .loop in
-    let a = m .before .before .before .before .before .before .before .args in
-    seen-illegal anyRules (a .payload .now) (a .running .status) (sheetEvents (a .count) (a .rows .now)) (l .inv .1) (inside m) filler _ (there m) (m .measure-row .result) (said m)
+    let a = m .before .before .before .before .before .before .args in
+    seen-illegal (rulesOf (a .rules)) (a .payload .now) (a .running .status) (sheetEvents (a .count) (a .rows .now)) (l .inv .1) (inside m) filler _ (there m) (m .measure-row .result) (said m)
     (c .before .refusal .given .0 .0) (c .before .refusal .given .1)
 
 enum-known-size : tie.Need-enum-known-size Inv-loop μ-loop
@@ -70,9 +66,9 @@ add-length : tie.Need-add-length Inv-loop μ-loop
 add-length c =
     let m = c .before .before .before .before in
     let l = m .before .before .before .loop in
-    let s = m .before .before .before .before .before .before .before in
+    let s = m .before .before .before .before .before .before in
     let a = s .args in
-    let most = seen-most anyRules (a .payload .now) (a .running .status) (sheetEvents (a .count) (a .rows .now)) (l .inv .1) (inside m) filler _ (there m) (m .measure-row .result) (said m)
+    let most = seen-most (rulesOf (a .rules)) (a .payload .now) (a .running .status) (sheetEvents (a .count) (a .rows .now)) (l .inv .1) (inside m) filler _ (there m) (m .measure-row .result) (said m)
     (c .before .before .size .given .0 .0) (c .before .before .size .given .1) in
     omega (arith, most, l .inv .1 .small, s .pre .0)
 
@@ -86,17 +82,17 @@ loop-again : tie.Need-loop-again Inv-loop μ-loop
 loop-again c =
     let m = c .before .before .before .before in
     let l = m .before .before .before .loop in
-    let a = m .before .before .before .before .before .before .before .args in (
+    let a = m .before .before .before .before .before .before .args in (
       omega arith,
-      seen-more anyRules (a .payload .now) (a .running .status) (sheetEvents (a .count) (a .rows .now)) (l .inv .1) (inside m) filler _ (there m) (m .measure-row .result) (said m)
+      seen-more (rulesOf (a .rules)) (a .payload .now) (a .running .status) (sheetEvents (a .count) (a .rows .now)) (l .inv .1) (inside m) filler _ (there m) (m .measure-row .result) (said m)
           (c .before .before .size .given .0 .0) (c .before .before .size .given .1),
     )
 
 returns-2 : tie.Need-returns-2 Inv-loop μ-loop
 returns-2 c =
     let l = c .before .loop in
-    let a = c .before .before .before .before .before .args in
-    seen-last anyRules (a .payload .now) (a .running .status) (sheetEvents (a .count) (a .rows .now)) (l .inv .1) (omega (arith, events-length (a .count) (a .rows .now)))
+    let a = c .before .before .before .before .args in
+    seen-last (rulesOf (a .rules)) (a .payload .now) (a .running .status) (sheetEvents (a .count) (a .rows .now)) (l .inv .1) (omega (arith, events-length (a .count) (a .rows .now)))
 
 pub measure-rows-spec : {M : Type 1} → statement M
 measure-rows-spec =
@@ -104,7 +100,6 @@ measure-rows-spec =
     (tie.spec
     Inv-loop
     μ-loop
-    any-rules-requires
     loop-holds
     row-of-requires
     measure-row-requires

@@ -3,33 +3,29 @@ use mathlib.Core.Path.{_≡_, sym, ap, _∙_}
 use Prim.Native.Nat.{_-_, _≤_}
 use native.Mathlib.Omega.{arith}
 use borrow.Author.Needs.{needs}
-use Rattle.smf.specs.Answer.{Rules}
 use Rattle.smf.specs.Lists.{filler}
 use Rattle.put.specs.Put.{putEvent}
 use Rattle.rows_back.specs.RowEvent.{rowEvent}
 use Rattle.sheet_back.specs.SheetList.{sheetEvents}
 use Rattle.sheet_back.proofs.Lifting.{events-length, event-there}
 use Rattle.compose.proofs.Going.{Going, going-first, going-length, going-last, going-more}
-use Rattle.loader.specs.Entry.{anyRules}
+use Rattle.rules.specs.Rules.{rulesOf}
 use Rattle.loader_lists.proofs.write.put_rows.Statement.{statement}
 use Rattle.loader_lists.proofs.write.put_rows.Tie as tie
 
 abbrev Inv-loop : tie.InvT-loop
-Inv-loop rows count payload out₀ rules place₀ status₀ i₀ out place status i = (i ≤ count) × Going anyRules payload status₀ (sheetEvents count rows) out₀ out place status i
+Inv-loop rows count payload rules out₀ place₀ status₀ i₀ out place status i = (i ≤ count) × Going (rulesOf rules) payload status₀ (sheetEvents count rows) out₀ out place status i
 
 abbrev μ-loop : tie.MeasureT-loop
-μ-loop rows count payload out₀ rules place₀ status₀ i₀ out place status i = count - i
-
-any-rules-requires : tie.Need-any-rules-requires Inv-loop μ-loop
-any-rules-requires c κs = search needs
+μ-loop rows count payload rules out₀ place₀ status₀ i₀ out place status i = count - i
 
 loop-holds : tie.Need-loop-holds Inv-loop μ-loop
 loop-holds c =
-    let p = c .before .before .before .before .pre in
+    let p = c .before .before .before .pre in
     (omega arith, going-first _ _ _ _ _ (p .2) (p .3))
 
 row-of-requires : tie.Need-row-of-requires Inv-loop μ-loop
-row-of-requires c κs = omega (arith, c .before .before .before .before .before .before .pre .0)
+row-of-requires c κs = omega (arith, c .before .before .before .before .before .pre .0)
 
 put-row-requires : tie.Need-put-row-requires Inv-loop μ-loop
 put-row-requires c κs = search needs
@@ -46,12 +42,12 @@ loop-again c =
     let e = m .before .before .row-of in
     let more = m .before .before .before .loop-test .taken in
     let l = m .before .before .before .before .loop in
-    let s = m .before .before .before .before .before .before .before .before .before in
+    let s = m .before .before .before .before .before .before .before .before in
     let a = s .args in (
       omega arith,
-      going-more anyRules (a .payload .now) (a .running .status) (sheetEvents (a .count) (a .rows .now)) (a .out .now) (l .inv .1)
+      going-more (rulesOf (a .rules)) (a .payload .now) (a .running .status) (sheetEvents (a .count) (a .rows .now)) (a .out .now) (l .inv .1)
           filler _ (event-there (a .count) (a .rows .now) (l .index) filler (s .pre .1) more ∙ ap rowEvent (sym (e .ensures))) (m .put-row .result) _ (omega (arith, events-length (a .count) (a .rows .now), more))
-          (m .put-row .ensures ∙ ap (λ (r : Rules). putEvent r (l .status) (a .payload .now) (rowEvent (e .result)) (l .out) (l .place)) (m .before .before .before .before .before .any-rules .ensures)),
+          (m .put-row .ensures),
     )
 
 same-length : tie.Need-same-length Inv-loop μ-loop
@@ -60,8 +56,8 @@ same-length c = going-length _ _ _ _ _ (c .before .loop .inv .1)
 returns : tie.Need-returns Inv-loop μ-loop
 returns c =
     let l = c .before .loop in
-    let a = c .before .before .before .before .before .before .args in
-    going-last anyRules (a .payload .now) (a .running .status) (sheetEvents (a .count) (a .rows .now)) (a .out .now) (l .inv .1) (omega (arith, events-length (a .count) (a .rows .now)))
+    let a = c .before .before .before .before .before .args in
+    going-last (rulesOf (a .rules)) (a .payload .now) (a .running .status) (sheetEvents (a .count) (a .rows .now)) (a .out .now) (l .inv .1) (omega (arith, events-length (a .count) (a .rows .now)))
 
 pub put-rows-spec : {M : Type 1} → statement M
 put-rows-spec =
@@ -69,7 +65,6 @@ put-rows-spec =
     (tie.spec
     Inv-loop
     μ-loop
-    any-rules-requires
     loop-holds
     row-of-requires
     put-row-requires

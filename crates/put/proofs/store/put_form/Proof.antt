@@ -4,6 +4,7 @@ use Prim.Native.Nat.{_+_, _≤_}
 use lib.ListN.{length}
 use borrow.Author.Needs.{needs}
 use Rattle.smf.specs.Answer.{gives}
+use Rattle.rules.specs.Rules.{rulesOf}
 use Rattle.legal.specs.Legal.{formAllowed}
 use Rattle.shape.specs.declared.form.Form.{Form}
 use Rattle.measure.specs.Form.{formBytes, formLength}
@@ -14,11 +15,11 @@ use Rattle.put.proofs.store.put_form.Tie as tie
 
 -- what the caller showed, of the form that it is
 abbrev Ready : tie.Start → Form → Type 0
-Ready c form = (formAllowed (c .args .bytes .now) form ≡ gives tt) × (c .args .at + length (formBytes (c .args .bytes .now) form) ≤ length (c .args .out .now))
+Ready c form = (formAllowed (rulesOf (c .args .rules)) (c .args .bytes .now) form ≡ gives tt) × (c .args .at + length (formBytes (c .args .bytes .now) form) ≤ length (c .args .out .now))
 
 -- and how much room the form takes
 roomy : (c : tie.Start) (form : Form) → Ready c form → c .args .at + formLength form ≤ length (c .args .out .now)
-roomy c form r = rw (form-length (c .args .bytes .now) form (r .0)) at (r .1)
+roomy c form r = rw (form-length (rulesOf (c .args .rules)) (c .args .bytes .now) form (r .0)) at (r .1)
 
 put-load-requires : tie.Need-put-load-requires
 unfolding formAllowed formLength
@@ -39,7 +40,7 @@ unfolding formAllowed formLength
 put-typed-requires-2 c κs =
     let s = c .before .before .before .before .before .before in
     let r = subst (Ready s) (c .before .before .form3 .given .1) (s .pre) in
-    (load-inside _ _ (unknown-load _ _ _ (r .0)), roomy s _ r)
+    (load-inside _ _ (unknown-load _ _ _ _ (r .0)), roomy s _ r)
 
 put-fixed-requires : tie.Need-put-fixed-requires
 unfolding formAllowed formLength

@@ -7,6 +7,7 @@ use mir.Val.{SFits}
 use mir.Facts.{toZ-ofZ}
 use Rattle.smf.specs.Kind.{isText}
 use Rattle.smf.specs.Event.{metaFits}
+use Rattle.rules.specs.Rules.{rulesOf}
 use Rattle.shape.specs.Form.{shapeOf, metaForm}
 use Rattle.shape.proofs.Forms.{signature-form, key-form, unknown-form}
 use Rattle.shape.proofs.form.meta_form.Statement.{statement}
@@ -16,20 +17,20 @@ use Rattle.shape.proofs.form.meta_form.Tie as tie
 signature : tie.Need-returns-16
 signature c =
     let v = c .before .message15 .given .0 in
-    let form = signature-form {a = v .0} {b = v .1 .0} {c = v .1 .1 .0} {d = v .1 .1 .1 .0} (omega arith) (omega arith) (omega arith) (omega arith) in
+    let form = signature-form (rulesOf (c .before .before .before .args .rules)) {a = v .0} {b = v .1 .0} {c = v .1 .1 .0} {d = v .1 .1 .1 .0} (omega arith) (omega arith) (omega arith) (omega arith) in
     rw (c .before .message15 .given .1, form)
 
 key : tie.Need-returns-17
 key c =
     let v = c .before .before .before .before .message16 .given .0 in
     let byte : SFits w8 (v .0) = search needs in
-    rw (c .before .before .before .before .message16 .given .1, key-form (v .0) (v .1 .0) (byte .sfits))
+    rw (c .before .before .before .before .message16 .given .1, key-form (rulesOf (c .before .before .before .before .before .before .args .rules)) (v .0) (v .1 .0) (byte .sfits))
     (c .fixed2 .ensures ∙ rw (c .before .mode .ensures, c .before .before .to-byte .ensures, toZ-ofZ byte))
 
 unknown : tie.Need-returns-19
 unknown c =
     let v = c .before .message18 .given .0 in
-    rw (c .before .message18 .given .1, unknown-form (v .0))
+    rw (c .before .message18 .given .1, unknown-form (rulesOf (c .before .before .before .args .rules)) (v .0))
 
 pub meta-form-spec : {M : Type 1} → statement M
 unfolding metaForm metaFits shapeOf isText

@@ -16,10 +16,10 @@ enum-told : tie.Need-enum-told
 enum-told c = search needs
 
 returns : tie.Need-returns
-returns c = time-given _ _ _ _ _ _ _ (c .before .before .before .encode .ensures) (c .before .a .given .1)
+returns c = time-given _ _ _ _ _ _ _ _ (c .before .before .before .encode .ensures) (c .before .a .given .1)
 
 returns-2 : tie.Need-returns-2
-returns-2 c = time-refused _ _ _ (c .before .before .encode .ensures) (c .enum-told .given .1)
+returns-2 c = time-refused _ _ _ _ (c .before .before .encode .ensures) (c .enum-told .given .1)
 
 pub time-form-spec : {M : Type 1} → statement M
 time-form-spec = tie.close (tie.spec encode-requires enum-known-a enum-told returns returns-2)

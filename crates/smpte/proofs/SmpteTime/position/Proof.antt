@@ -4,8 +4,10 @@ use mathlib.Core.Bool.{true}
 use Prim.Native.Nat.{_+_, _*_, _<_}
 use native.Mathlib.Omega.{arith}
 use borrow.Author.Tests.{not-true, not-false}
+use Rattle.smf.specs.Answer.{Rules}
 use Rattle.smf.specs.Smpte.{Time, isTime, seconds, frames, subframes, position}
 use Rattle.smf.proofs.Smpte.{in-range, frames-below}
+use Rattle.rules.specs.Rules.{rulesOf}
 use Rattle.smpte.specs.Smpte.{smpteTimeOf}
 use borrow.Author.Needs.{needs}
 use Rattle.smpte.proofs.SmpteTime.position.Statement.{statement}
@@ -19,7 +21,7 @@ unfolding position
 returns c = rw (sym (c .before .in-range .ensures) ∙ not-true _ (c .if1 .taken))
 
 -- the time is legal
-legal : (c : tie.Else1) → isTime (smpteTimeOf (c .before .before .args .self)) ≡ true
+legal : (c : tie.Else1) → isTime (rulesOf (c .before .before .args .rules)) (smpteTimeOf (c .before .before .args .self)) ≡ true
 legal c = sym (c .before .in-range .ensures) ∙ not-false _ (c .if1 .left)
 
 cast-seconds : tie.Need-cast-seconds
@@ -53,10 +55,14 @@ cast-frames c = search needs
 abbrev asked : tie.After-as-int → Time
 asked c = smpteTimeOf (c .before .before .before .before .before .before .args .self)
 
+-- and the rules that it is judged by
+abbrev ruled : tie.After-as-int → Rules
+ruled c = rulesOf (c .before .before .before .before .before .before .args .rules)
+
 -- the frames that are counted
 below : (c : tie.After-as-int) → seconds (asked c) * c .as-int .result + asked c .frame < 2592000
 unfolding frames
-below c = rw (c .as-int .ensures) (frames-below (asked c) (in-range (asked c) (legal (c .before .before .before .before))))
+below c = rw (c .as-int .ensures) (frames-below (asked c) (in-range (ruled c) (asked c) (legal (c .before .before .before .before))))
 
 mul-frames : tie.Need-mul-frames
 unfolding seconds

@@ -5,6 +5,7 @@ use lib.Ieee.{ofBits, ofInt}
 use borrow.Author.Tests.{not-true, not-false}
 use Rattle.smf.specs.Smpte.{isTime}
 use Rattle.smf.specs.Seconds.{secondFloat, secondsOf}
+use Rattle.rules.specs.Rules.{rulesOf}
 use Rattle.smpte.specs.Smpte.{smpteTimeOf}
 use borrow.Author.Needs.{needs}
 use Rattle.smpte.proofs.SmpteTime.second_f32.Statement.{statement}
@@ -30,7 +31,7 @@ as-f32-requires : tie.Need-as-f32-requires
 as-f32-requires c κs = search needs
 
 -- the time is legal
-legal : (c : tie.Else1) → isTime (smpteTimeOf (c .before .before .args .self)) ≡ true
+legal : (c : tie.Else1) → isTime (rulesOf (c .before .before .args .rules)) (smpteTimeOf (c .before .before .args .self)) ≡ true
 legal c = sym (c .before .in-range .ensures) ∙ not-false _ (c .if1 .left)
 
 returns-2 : tie.Need-returns-2
