@@ -118,7 +118,7 @@ int main(int words, char **word) {
     }
     size_t length = (size_t)loaded;
 
-    /* A list holds 128 events. A full one is printed and written, and reading goes on behind it. */
+    /* A list holds APK_LIST_ROWS events. A full one is printed and written, and reading goes on behind it. */
     size_t place = 0, events = 0, written = 0;
     uint8_t running = 0, out_running = 0, stopped;
     do {

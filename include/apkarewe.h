@@ -6,8 +6,8 @@
  * back.
  *
  * What it needs. No heap, no files, nothing of libc but memcpy, memmove and memset. Nothing is kept between calls, so
- * that calls from several threads do not meet. The stack, as measured on aarch64: 21 KB for apk_list_same, 17 for the
- * other entries on lists, under 1 KB for the rest.
+ * that calls from several threads do not meet. The stack, as measured on x86-64: 14 KB for apk_list_read, 4 for
+ * apk_list_write, under 1 KB for the rest.
  *
  * What an entry answers. A uint8_t: 0 where it accepts, else the number of a refusal (enum apk_answer). An entry that
  * refuses nothing answers its value. After a refusal every value and every byte that was lent is as it came, unless
@@ -24,7 +24,7 @@
  * What is proved. Of each entry, for all numbers and bytes that it can be given: it ends, it reads and writes within
  * the slices only, its answer is the one that its definition gives, and so is what each lent value and each lent byte
  * holds at the end, after a refusal too. The definition is named with each entry; the definitions stand in
- * crates/smf/specs and in the specs of the crates rows to sheet_back and loader to loader_same, and are written
+ * crates/smf/specs and in the specs of the crates rows, write, same, loader and loader_track, and are written
  * from Standard MIDI Files 1.0 and document 01, not from the code. Proved of the definitions: what is written is read back, strictly
  * and leniently, whatever follows it; every event that is read is legal; no bytes that are read strictly as an event
  * are shorter than those that are written for it. Not proved, but compared in runs: that midly 0.5.3 answers alike
@@ -69,14 +69,14 @@ enum apk_answer {
                                      bend's value asked of a number above its width */
     APK_PAYLOAD_OUTSIDE = 19,     /* write: payload range not inside the payload bytes; start beyond the end counts even
                                      at length 0 */
-    APK_NO_ROOM = 20,             /* write: no room; of lists also: cells too few for the rows */
-    APK_TOO_MANY_EVENTS = 21,     /* write: count above 128 */
+    APK_NO_ROOM = 20,             /* write: no room; apk_list_read alone: cells too few for the rows read */
+    APK_TOO_MANY_EVENTS = 21,     /* write: count above APK_LIST_ROWS */
     APK_PAYLOAD_TOO_LONG = 22,    /* write: payload above 268,435,455 bytes */
     APK_UNKNOWN_NAMED = 23,       /* write: Unknown that would read as a named kind or be refused as 59 */
-    APK_FULL = 255                /* apk_list_read alone: 128 events read, and bytes left. No refusal */
+    APK_FULL = 255                /* apk_list_read alone: APK_LIST_ROWS events read, and bytes left. No refusal */
 };
 
-/* An event is a row of ten cells. */
+/* An event is a row of cells. */
 enum apk_cell {
     APK_DELTA = 0,  /* ticks since the event before, 0 to 268,435,455 */
     APK_KIND = 1,   /* enum apk_kind */
@@ -91,8 +91,8 @@ enum apk_cell {
     APK_CELLS = 10  /* how many cells a row has */
 };
 
-/* A list is so many rows, one behind the other, from the first cell on. */
-enum { APK_LIST_ROWS = 128, APK_LIST_CELLS = 1280 };
+/* A list is at most so many rows, one behind the other, from the first cell on. */
+enum { APK_LIST_ROWS = 128, APK_LIST_CELLS = APK_LIST_ROWS * APK_CELLS };
 
 /* The kinds: a channel message by the upper half of its status, a meta message by 0x100 and its type. */
 enum apk_kind {
@@ -129,7 +129,7 @@ enum apk_kind {
 
 /* Lists ---------------------------------------------------------------------------------------------------------- */
 
-/* Reads the list of events at a place, from a running status: at most 128.
+/* Reads the list of events at a place, from a running status: at most APK_LIST_ROWS.
  *   rows, cells  where the rows go, from rows[0] on; APK_LIST_CELLS cells are always enough. Cells behind the rows stay
  *   count        how many events were read
  *   place        the place of the next unread byte; after a refusal, of the refused event
@@ -148,28 +148,28 @@ uint8_t apk_list_read(const uint8_t *bytes, size_t bytes_len, size_t at, uint8_t
  *   length                how many bytes; as it came after a refusal
  *   after                 the running status after them; after a refusal, as given
  *   index                 after a refusal the index of the first illegal event, 0 for 1, 20 and 21; else as it came
- * Refuses 1, then 21, then 20 where the cells are too few for the count, then the first illegal event by 18, 19, 22 or
- * 23. A row that is no event's (no such kind, or a field that no event can hold) is refused by 18.
- * Definition: sheetSize of loader_lists, sizeList of smf. */
+ * Refuses 1, then 21, then the first illegal event by 18, 19, 22 or 23. A row that is no event's (no such kind, a field
+ * that no event can hold, or not all of its cells there) is refused by 18.
+ * Definition: sheetSize, that is sizeList of smf over rowRecords of rows. */
 uint8_t apk_list_length(const uint64_t *rows, size_t cells, size_t count, const uint8_t *payload, size_t payload_len,
                         uint8_t running, uint8_t rules, size_t *length, uint8_t *after, size_t *index);
 
 /* Writes so many rows from out[0] on, in the shortest form, as apk_list_length measures them.
  *   out, out_len  where the bytes go; nothing behind them is changed, and after a refusal nothing at all
  * The rest, and the refusals, as there; last of all 20 where out is too short. An empty list fits in no bytes.
- * Definition: sheetWritten of loader_lists, writeList of smf. */
+ * Definition: sheetWritten, that is writeList of smf over rowRecords of rows. */
 uint8_t apk_list_write(const uint64_t *rows, size_t cells, size_t count, const uint8_t *payload, size_t payload_len,
                        uint8_t running, uint8_t rules, uint8_t *out, size_t out_len, size_t *length, uint8_t *after,
                        size_t *index);
 
 /* Whether two lists are the same, each over the bytes that its payloads stand in: counts, deltas, kinds, fields and
- * payload bytes agree; where payloads start does not count. Answers 1 the same, 0 not; 21 where a count is above 128,
- * 20 where the cells are too few for it, of the first list before the second. A row that is no event's is like every
- * other such row. Definition: SameList of smf. */
+ * payload bytes agree; where payloads start does not count. *same is 1 where they are, 0 where they are not. Refuses 21
+ * where a count is above APK_LIST_ROWS, then 18 where a row of either is no event's, or its cells are not all there; then *same is
+ * as it came. Definition: SameList of smf, listsAsked of same. */
 uint8_t apk_list_same(const uint64_t *rows_a, size_t cells_a, size_t count_a,
                       const uint8_t *bytes_a, size_t bytes_a_len,
                       const uint64_t *rows_b, size_t cells_b, size_t count_b,
-                      const uint8_t *bytes_b, size_t bytes_b_len);
+                      const uint8_t *bytes_b, size_t bytes_b_len, uint8_t *same);
 
 /* Single events -------------------------------------------------------------------------------------------------- */
 
@@ -178,22 +178,23 @@ uint8_t apk_list_same(const uint64_t *rows_a, size_t cells_a, size_t count_a,
  * as given for 1, 4 to 7, and for 2 and 3 in a delta; its own status for 8 and 9; none for the others.
  * Definition: eventAt of smf, laid out by eventRow of rows. */
 uint8_t apk_event_read(const uint8_t *bytes, size_t bytes_len, size_t at, uint8_t running, uint8_t rules,
-                       uint64_t row[10], size_t *used, uint8_t *after);
+                       uint64_t row[APK_CELLS], size_t *used, uint8_t *after);
 
 /* How many bytes a row's event has when written from a running status, and the running status after it.
- * Refuses 1, 18, 19, 22, 23; then both are as they came. Definition: rowSize of loader_events. */
-uint8_t apk_event_length(const uint64_t row[10], const uint8_t *payload, size_t payload_len, uint8_t running,
+ * Refuses 1, 18, 19, 22, 23; then both are as they came. Definition: sizeEvent of write. */
+uint8_t apk_event_length(const uint64_t row[APK_CELLS], const uint8_t *payload, size_t payload_len, uint8_t running,
                          uint8_t rules, size_t *length, uint8_t *after);
 
 /* Writes a row's event at a place of out, in the shortest form: *next is the place after it, *after the running status.
  * Refuses 1, 18, 19, 22, 23, 20; then every byte and *next are as they came, and *after is the running status as given.
  * Definition: writeEvent of smf. */
-uint8_t apk_event_write(const uint64_t row[10], const uint8_t *payload, size_t payload_len, uint8_t running,
+uint8_t apk_event_write(const uint64_t row[APK_CELLS], const uint8_t *payload, size_t payload_len, uint8_t running,
                         uint8_t rules, uint8_t *out, size_t out_len, size_t at, size_t *next, uint8_t *after);
 
-/* Whether two events are the same, by the rule of apk_list_same. Answers 1 the same, 0 not. Definition: Same of smf. */
-uint8_t apk_event_same(const uint64_t row_a[10], const uint8_t *bytes_a, size_t bytes_a_len,
-                       const uint64_t row_b[10], const uint8_t *bytes_b, size_t bytes_b_len);
+/* Whether two events are the same, by the rule of apk_list_same: *same is 1 where they are, 0 where they are not. Refuses
+ * 18 where a row is no event's; then *same is as it came. Definition: Same of smf, rowsAsked of same. */
+uint8_t apk_event_same(const uint64_t row_a[APK_CELLS], const uint8_t *bytes_a, size_t bytes_a_len,
+                       const uint64_t row_b[APK_CELLS], const uint8_t *bytes_b, size_t bytes_b_len, uint8_t *same);
 
 /* Numbers and payloads ------------------------------------------------------------------------------------------- */
 

@@ -16,6 +16,7 @@ mod refusal;
 mod reads;
 mod report;
 mod shrink;
+mod sizes;
 mod strings;
 mod vectors;
 mod writing;

@@ -51,7 +51,7 @@ fn rust_events(bytes: &[u8]) -> usize {
 
 fn port_events(bytes: &[u8]) -> usize {
     let (mut at, mut running, mut count) = (0, 0, 0);
-    let mut row = [0; 10];
+    let mut row = [0; port::WIDTH];
     while at < bytes.len() {
         let (answer, used, after) = port::event_read(bytes, at, running, &mut row);
         if answer != 0 {
@@ -88,7 +88,7 @@ fn port_write_events(rows: &[port::Row], bytes: &[u8], out: &mut [u8]) -> usize 
     at
 }
 
-// ---- lists of 128, continued; neither side clears its records before it reads, and the port fills rows
+// ---- full lists, continued; neither side clears its records before it reads, and the port fills rows
 
 fn rust_lists(bytes: &[u8]) -> usize {
     let (mut raw, mut running, mut count) = (bytes, None, 0);
@@ -111,7 +111,7 @@ fn rust_lists(bytes: &[u8]) -> usize {
 
 fn port_lists(bytes: &[u8]) -> usize {
     let (mut at, mut running, mut count) = (0, 0, 0);
-    let mut rows = [[0; 10]; port::CAPACITY];
+    let mut rows = [[0; port::WIDTH]; port::CAPACITY];
     loop {
         let (answer, n, place, after) = port::list_read(bytes, at, running, &mut rows);
         black_box(&rows);
@@ -179,7 +179,7 @@ fn all(bytes: &[u8]) -> (Vec<TrackEvent>, Vec<port::Row>) {
     }
     let (mut at, mut running, mut rows) = (0, 0, Vec::new());
     while at < bytes.len() {
-        let mut row = [0; 10];
+        let mut row = [0; port::WIDTH];
         let (answer, used, after) = port::event_read(bytes, at, running, &mut row);
         if answer != 0 {
             break;

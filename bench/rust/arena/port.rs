@@ -3,10 +3,10 @@
 extern "C" {
     fn apk_event_read(
         bytes: *const u8, length: usize, at: usize, running: u8, rules: u8,
-        row: *mut [u64; 10], used: *mut usize, after: *mut u8,
+        row: *mut Row, used: *mut usize, after: *mut u8,
     ) -> u32;
     fn apk_event_write(
-        row: *const [u64; 10], payload: *const u8, payload_length: usize, running: u8, rules: u8,
+        row: *const Row, payload: *const u8, payload_length: usize, running: u8, rules: u8,
         out: *mut u8, out_length: usize, at: usize, next: *mut usize, after: *mut u8,
     ) -> u32;
     fn apk_list_read(
@@ -22,12 +22,13 @@ extern "C" {
 
 /// The rules of a call, a set of bits: lenient.
 const RULES: u8 = 0;
-/// As many events as a list holds.
+/// How many cells a row has, and how many events a list holds: `tools/header-check` holds both to the header's.
+pub const WIDTH: usize = 10;
 pub const CAPACITY: usize = 128;
 /// The answer of a list that is full.
 pub const FULL: u8 = 255;
 
-pub type Row = [u64; 10];
+pub type Row = [u64; WIDTH];
 
 /// The event at a place: the answer, the bytes used and the running status after it.
 #[inline(always)]
@@ -54,7 +55,7 @@ pub fn list_read(bytes: &[u8], at: usize, running: u8, rows: &mut [Row; CAPACITY
     let (mut count, mut place, mut after) = (0, 0, 0);
     let answer = unsafe {
         let cells = rows.as_mut_ptr() as *mut u64;
-        apk_list_read(bytes.as_ptr(), bytes.len(), at, running, RULES, cells, 10 * CAPACITY, &mut count, &mut place, &mut after)
+        apk_list_read(bytes.as_ptr(), bytes.len(), at, running, RULES, cells, WIDTH * CAPACITY, &mut count, &mut place, &mut after)
     };
     (answer as u8, count, place, after)
 }
@@ -66,7 +67,7 @@ pub fn list_write(rows: &[Row], payload: &[u8], running: u8, out: &mut [u8]) -> 
     let answer = unsafe {
         let cells = rows.as_ptr() as *const u64;
         apk_list_write(
-            cells, 10 * rows.len(), rows.len(), payload.as_ptr(), payload.len(), running, RULES,
+            cells, WIDTH * rows.len(), rows.len(), payload.as_ptr(), payload.len(), running, RULES,
             out.as_mut_ptr(), out.len(), &mut length, &mut after, &mut index,
         )
     };

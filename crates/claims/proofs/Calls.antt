@@ -8,40 +8,41 @@ use Rattle.smf.specs.Write.{write, numberBytes, payloadBytes}
 use Rattle.smf.specs.MetaAt.{metaAt}
 use Rattle.smf.specs.Event.{eventAt, writeEvent}
 use Rattle.smf.specs.Lists.{listAt, heldAs, sizeList, writeList}
-use Rattle.rules.specs.Rules.{rulesOf}
+use Rattle.base.specs.Rules.{rulesOf}
 use Rattle.number.specs.Varlen.{numberRead, writeLeft}
-use Rattle.payload.specs.Payload.{sliceRead}
-use Rattle.rules.specs.declared.Rules.{Rules}
-use Rattle.rules.specs.declared.Running.{Running}
-use Rattle.rules.specs.declared.Range.{Range}
-use Rattle.number.specs.declared.varlen.u28.{u28}
+use Rattle.number.specs.Payload.{sliceRead}
+use Rattle.base.specs.declared.Rules.{Rules}
+use Rattle.base.specs.declared.Running.{Running}
+use Rattle.base.specs.declared.Range.{Range}
+use Rattle.number.specs.declared.u28.{u28}
 use Rattle.number.specs.declared.varlen.ReadNumber.{ReadNumber}
-use Rattle.payload.specs.declared.ReadSlice.{ReadSlice}
-use Rattle.number.specs.declared.varlen.Written.{Written}
+use Rattle.number.specs.declared.payload.ReadSlice.{ReadSlice}
+use Rattle.number.specs.declared.varlen.WroteNumber.{WroteNumber}
 use Rattle.meta.specs.Meta.{metaRead}
 use Rattle.meta.specs.declared.ReadMeta.{ReadMeta}
 use Rattle.event.specs.Event.{eventOf, eventRead}
-use Rattle.event.specs.declared.track_event.TrackEvent.{TrackEvent}
+use Rattle.event.specs.declared.TrackEvent.{TrackEvent}
 use Rattle.event.specs.declared.read.ReadEvent.{ReadEvent}
-use Rattle.track.specs.List.{capacity}
+use Rattle.track.specs.List.{capacity, recordOf}
 use Rattle.track.specs.Read.{listRead}
 use Rattle.track.specs.declared.list.EventList.{EventList}
 use Rattle.track.specs.declared.read.ReadList.{ReadList}
-use Rattle.writing.specs.Write.{wroteEvent}
-use Rattle.writing.specs.declared.WroteEvent.{WroteEvent}
-use Rattle.lengths.specs.Lengths.{sizeSaid}
-use Rattle.compose.specs.Written.{wroteList}
-use Rattle.lengths.specs.declared.ListLength as length
-use Rattle.compose.specs.declared.WroteList.{WroteList}
-use Rattle.claims.specs.Calls.{ReadU7, WriteVarlen, ReadVarlenSlice, WriteVarlenSlice, MetaMessageRead, TrackEventRead, EventListRead, WriteEvent, ListLength, WriteList}
+use Rattle.rows.specs.RowEvent.{rowRecord}
+use Rattle.rows.specs.RowLists.{rowRecords}
+use Rattle.write.specs.Wrote.{wroteEvent}
+use Rattle.write.specs.ListAnswers.{sizeSaid, wroteList}
+use Rattle.write.specs.declared.answer.WroteEvent.{WroteEvent}
+use Rattle.write.specs.declared.answer.ListLength as length
+use Rattle.write.specs.declared.answer.WroteList.{WroteList}
+use Rattle.claims.specs.Calls.{ReadU7, WriteVarlen, ReadVarlenSlice, WriteVarlenSlice, MetaMessageRead, TrackEventRead, EventListRead, WriteEvent, WriteRow, ListLength, WriteList, RowsLength, WriteRows}
 
 pub read-u7 : (Claim : List ℕ → ℕ → Rules → ReadNumber → Type 0)
     → ((raw : List ℕ) (at : ℕ) (rules : Rules) (r : ReadNumber) → numberRead r ≡ numberAt (rulesOf rules) raw at → Claim raw at rules r)
     → ReadU7 Claim
 read-u7 Claim law κs a r e told = law (now (a .0)) (a .1 .0) (a .1 .1 .0) r told
 
-pub write-varlen : (Claim : u28 → List ℕ → ℕ → Written → List ℕ → Type 0)
-    → ((self : u28) (out : List ℕ) (at : ℕ) (r : Written) (end : List ℕ) → writeLeft r end ≡ write (numberBytes (self .0)) out at → Claim self out at r end)
+pub write-varlen : (Claim : u28 → List ℕ → ℕ → WroteNumber → List ℕ → Type 0)
+    → ((self : u28) (out : List ℕ) (at : ℕ) (r : WroteNumber) (end : List ℕ) → writeLeft r end ≡ write (numberBytes (self .0)) out at → Claim self out at r end)
     → WriteVarlen Claim
 write-varlen Claim law κs a r e told = law (a .0) (now (a .1 .0)) (a .1 .1 .0) r (now (e .1 .0)) told
 
@@ -50,8 +51,8 @@ pub read-varlen-slice : (Claim : List ℕ → ℕ → Rules → ReadSlice → Ty
     → ReadVarlenSlice Claim
 read-varlen-slice Claim law κs a r e told = law (now (a .0)) (a .1 .0) (a .1 .1 .0) r told
 
-pub write-varlen-slice : (Claim : List ℕ → Range → List ℕ → ℕ → Written → List ℕ → Type 0)
-    → ((bytes : List ℕ) (slice : Range) (out : List ℕ) (at : ℕ) (r : Written) (end : List ℕ)
+pub write-varlen-slice : (Claim : List ℕ → Range → List ℕ → ℕ → WroteNumber → List ℕ → Type 0)
+    → ((bytes : List ℕ) (slice : Range) (out : List ℕ) (at : ℕ) (r : WroteNumber) (end : List ℕ)
     → writeLeft r end ≡ write (payloadBytes bytes (slice .start) (slice .length)) out at → Claim bytes slice out at r end)
     → WriteVarlenSlice Claim
 write-varlen-slice Claim law κs a r e told = law (now (a .0)) (a .1 .0) (now (a .1 .1 .0)) (a .1 .1 .1 .0) r (now (e .1 .1 .0)) told
@@ -75,23 +76,46 @@ read-list Claim law κs a r e told = law (now (a .0)) (a .1 .0) (a .1 .1 .0) (a 
 
 pub write-event : (Claim : TrackEvent → Running → Rules → List ℕ → List ℕ → ℕ → WroteEvent → List ℕ → Type 0)
     → ((event : TrackEvent) (running : Running) (rules : Rules) (bytes out : List ℕ) (at : ℕ) (r : WroteEvent) (end : List ℕ)
-    → wroteEvent (running .status) r end ≡ writeEvent (rulesOf rules) (running .status) bytes (eventOf event) out at
+    → wroteEvent r end ≡ writeEvent (rulesOf rules) (running .status) bytes (eventOf event) out at
     → Claim event running rules bytes out at r end)
     → WriteEvent Claim
 write-event Claim law κs a r e told =
     law (a .0) (a .1 .0) (a .1 .1 .0) (now (a .1 .1 .1 .0)) (now (a .1 .1 .1 .1 .0)) (a .1 .1 .1 .1 .1 .0) r (now (e .1 .1 .1 .1 .0)) told
 
+pub write-row : (Claim : List ℕ → Running → Rules → List ℕ → List ℕ → ℕ → WroteEvent → List ℕ → Type 0)
+    → ((row : List ℕ) (running : Running) (rules : Rules) (bytes out : List ℕ) (at : ℕ) (r : WroteEvent) (end : List ℕ)
+    → wroteEvent r end ≡ writeEvent (rulesOf rules) (running .status) bytes (rowRecord row) out at
+    → Claim row running rules bytes out at r end)
+    → WriteRow Claim
+write-row Claim law κs a r e told =
+    law (a .0) (a .1 .0) (a .1 .1 .0) (now (a .1 .1 .1 .0)) (now (a .1 .1 .1 .1 .0)) (a .1 .1 .1 .1 .1 .0) r (now (e .1 .1 .1 .1 .0)) told
+
 pub list-length : (Claim : EventList → Running → Rules → List ℕ → length.ListLength → Type 0)
     → ((list : EventList) (running : Running) (rules : Rules) (bytes : List ℕ) (r : length.ListLength)
-    → sizeSaid (running .status) r ≡ sizeList (rulesOf rules) capacity (running .status) bytes (map eventOf (list .records)) (list .count)
+    → sizeSaid r ≡ sizeList (rulesOf rules) capacity (running .status) bytes (map recordOf (list .records)) (list .count)
     → Claim list running rules bytes r)
     → ListLength Claim
 list-length Claim law κs a r e told = law (a .0) (a .1 .0) (a .1 .1 .0) (now (a .1 .1 .1 .0)) r told
 
 pub write-list : (Claim : EventList → Running → Rules → List ℕ → List ℕ → WroteList → List ℕ → Type 0)
     → ((list : EventList) (running : Running) (rules : Rules) (bytes out : List ℕ) (r : WroteList) (end : List ℕ)
-    → wroteList (running .status) r end ≡ writeList (rulesOf rules) capacity (running .status) bytes (map eventOf (list .records)) (list .count) out
+    → wroteList r end ≡ writeList (rulesOf rules) capacity (running .status) bytes (map recordOf (list .records)) (list .count) out
     → Claim list running rules bytes out r end)
     → WriteList Claim
 write-list Claim law κs a r e told =
     law (a .0) (a .1 .0) (a .1 .1 .0) (now (a .1 .1 .1 .0)) (now (a .1 .1 .1 .1 .0)) r (now (e .1 .1 .1 .1 .0)) told
+
+pub rows-length : (Claim : List ℕ → ℕ → Running → Rules → List ℕ → length.ListLength → Type 0)
+    → ((rows : List ℕ) (count : ℕ) (running : Running) (rules : Rules) (bytes : List ℕ) (r : length.ListLength)
+    → sizeSaid r ≡ sizeList (rulesOf rules) capacity (running .status) bytes (rowRecords count rows) count
+    → Claim rows count running rules bytes r)
+    → RowsLength Claim
+rows-length Claim law κs a r e told = law (now (a .0)) (a .1 .0) (a .1 .1 .0) (a .1 .1 .1 .0) (now (a .1 .1 .1 .1 .0)) r told
+
+pub write-rows : (Claim : List ℕ → ℕ → Running → Rules → List ℕ → List ℕ → WroteList → List ℕ → Type 0)
+    → ((rows : List ℕ) (count : ℕ) (running : Running) (rules : Rules) (bytes out : List ℕ) (r : WroteList) (end : List ℕ)
+    → wroteList r end ≡ writeList (rulesOf rules) capacity (running .status) bytes (rowRecords count rows) count out
+    → Claim rows count running rules bytes out r end)
+    → WriteRows Claim
+write-rows Claim law κs a r e told =
+    law (now (a .0)) (a .1 .0) (a .1 .1 .0) (a .1 .1 .1 .0) (now (a .1 .1 .1 .1 .0)) (now (a .1 .1 .1 .1 .1 .0)) r (now (e .1 .1 .1 .1 .1 .0)) told

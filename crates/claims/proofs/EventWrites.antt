@@ -2,7 +2,7 @@
 use mathlib.Core.Path.{_≡_, refl, sym, ap, _∙_, subst}
 use mathlib.Core.Bool.{true}
 use mathlib.Core.List.{List, _++_, append-assoc}
-use Prim.Native.Nat.{ℕ, _+_, _≤_}
+use Prim.Native.Nat.{ℕ, _+_, _≤_, _<_}
 use native.Mathlib.Omega.{arith}
 use lib.Dec.{leb}
 use lib.ListN.{length, take, drop, length-append}
@@ -11,17 +11,23 @@ use borrow.Author.Tests.{leb-true}
 use Rattle.smf.specs.Answer.{Answer, gives, refuses, andThen, Rules}
 use Rattle.smf.specs.Running.{isRunning}
 use Rattle.smf.specs.Place.{Span}
-use Rattle.smf.specs.Wire.{runningAfter}
+use Rattle.smf.specs.Number.{encodeNumber}
+use Rattle.smf.specs.Wire.{encodeRaw, encodeRawEvent, runningAfter}
 use Rattle.smf.specs.Write.{Written, over, put, write}
 use Rattle.smf.specs.Kind.{rawOf}
 use Rattle.smf.specs.Event.{Event, mapKind, mapEvent, bytesOf, isLegal, legal, encodeEvent, eventBytes, EventWritten, eventWritten, writeEvent}
 use Rattle.smf.proofs.Answer.{pick-test, said-refused}
+use Rattle.smf.proofs.Number.{encode-some}
 use Rattle.smf.proofs.Write.{length-over}
 use Rattle.smf.proofs.Event.{legal-exactly}
-use Rattle.writing.proofs.Wrote.{event-some}
 use Rattle.claims.specs.Table.{By, ofLegality, ofWriting}
-use Rattle.claims.specs.Leaves.{EventRefused, EventLeaves}
+use Rattle.claims.specs.Leaves.{WriteRefused, EventLeaves}
 use Rattle.claims.proofs.Refusals.{one-of-more, legal-by}
+
+-- every event has some bytes
+event-some : (running : ℕ) (e : Event (List ℕ)) → 0 < length (encodeEvent running e)
+unfolding encodeEvent encodeRawEvent
+event-some running e = omega (arith, length-append (encodeNumber (e .delta)) (encodeRaw running (rawOf (e .kind))), encode-some (e .delta))
 
 -- bytes over a part of a buffer: those before and those beyond stay
 module _ (bs s : List ℕ) (at : ℕ) (h : at + length bs ≤ length s) where
@@ -50,7 +56,7 @@ module _ (rules : Rules) (running : ℕ) (bytes : List ℕ) (e : Event Span) (bu
 
   abbrev Says : EventWritten → Answer ℕ → Type 0
   Says w (gives next) = Wrote w next
-  Says w (refuses n) = EventRefused running buffer w n
+  Says w (refuses n) = WriteRefused running buffer w n
 
   abbrev Good : Written → Type 0
   Good w = Says (eventWritten running after w) (w .answer)

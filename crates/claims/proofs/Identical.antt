@@ -3,28 +3,30 @@ use mathlib.Core.Path.{_≡_, sym, ap, _∙_}
 use mathlib.Core.List.{List}
 use Prim.Native.Nat.{ℕ}
 use lib.ListN.{getD}
+use denote.Ref.{now}
 use Rattle.smf.specs.Write.{Written}
+use Rattle.smf.specs.Event.{Same}
+use Rattle.smf.specs.Lists.{SameList}
+use Rattle.track.specs.List.{capacity}
 use Rattle.number.specs.Varlen.{writeLeft}
-use Rattle.number.specs.declared.varlen.Written as varlen
-use Rattle.int.proofs.Identical.{triedU2-injective, triedU4-injective, triedU7-injective, triedU14-injective, triedU15-injective, triedU24-injective}
+use Rattle.number.specs.declared.varlen.WroteNumber as varlen
+use Rattle.base.proofs.IdenticalNumbers.{triedU2-injective, triedU4-injective, triedU7-injective, triedU14-injective, triedU15-injective, triedU24-injective}
 use Rattle.number.proofs.Identical.{triedU28-injective, numberRead-injective, writtenTo-injective}
-use Rattle.payload.proofs.Identical.{sliceRead-injective}
+use Rattle.number.proofs.IdenticalPayloads.{sliceRead-injective}
 use Rattle.header.proofs.Identical.{rateOf-injective, triedFps-injective, formatRead-injective, timingRead-injective, timingEncoded-injective}
-use Rattle.smpte.proofs.Identical.{triedSmpteTime-injective, encodedSmpteTime-injective, askedSecond-injective, askedPosition-injective}
-use Rattle.bend.proofs.Identical.{bendInt-injective, bendF32-injective, bendF64-injective}
-use Rattle.midi.proofs.Identical.{messageOf-injective}
+use Rattle.header.proofs.IdenticalTimes.{triedSmpteTime-injective, encodedSmpteTime-injective, askedSecond-injective, askedPosition-injective}
+use Rattle.midi.proofs.IdenticalBends.{bendInt-injective, bendF32-injective, bendF64-injective}
 use Rattle.meta.proofs.Identical.{metaRead-injective}
 use Rattle.event.proofs.Identical.{eventOf-injective, eventRead-injective}
-use Rattle.legal.proofs.Identical.{verdictOf-injective}
-use Rattle.measure.proofs.Identical.{lengthSaid-injective, formLengthSaid-injective}
-use Rattle.put.proofs.Identical.{putLeft-injective}
-use Rattle.writing.proofs.Identical.{wroteEvent-injective}
-use Rattle.track.proofs.Identical.{heldOf-injective, listRead-injective}
-use Rattle.lengths.proofs.Identical.{sizeSaid-injective}
-use Rattle.compose.proofs.Identical.{wroteList-injective}
+use Rattle.track.proofs.Identical.{heldOf-injective, listRead-injective, nextOf-injective}
+use Rattle.write.proofs.Identical.{lengthSaid-injective, wroteEvent-injective, sizeSaid-injective, wroteList-injective}
 use Rattle.rows.specs.Rows.{rowNumbers}
 use Rattle.rows.specs.declared.Row.{Row}
-use Rattle.same.proofs.Identical.{tells-identical}
+use Rattle.rows.specs.RowEvent.{calledRow}
+use Rattle.rows.specs.RowLists.{rowRecords}
+use Rattle.rows.proofs.Identical.{rowAnswer-injective}
+use Rattle.same.specs.OfRows.{rowsAsked, listsAsked}
+use Rattle.same.proofs.Identical.{tells-identical, says-identical}
 use Rattle.claims.specs.Identical.{Numbers, Headers, Bends, Events, Lists, Identical}
 
 -- a row is its numbers
@@ -47,7 +49,7 @@ unfolding rowOf
 rowNumbers-injective e = ap rowOf e
 
 -- a write's answer and its buffer
-writeLeft-injective : {x y : varlen.Written} {b d : List ℕ} → writeLeft x b ≡ writeLeft y d → (x ≡ y) × (b ≡ d)
+writeLeft-injective : {x y : varlen.WroteNumber} {b d : List ℕ} → writeLeft x b ≡ writeLeft y d → (x ≡ y) × (b ≡ d)
 writeLeft-injective e = (writtenTo-injective (ap (λ (w : Written). w .answer) e), ap (λ (w : Written). w .buffer) e)
 
 numbers : Numbers
@@ -138,22 +140,12 @@ events : Events
 events =
     record {
       msg-length = λ κs a y z d e p q. p ∙ sym q;
-      midi-read = λ κs a y z d e p q. messageOf-injective (p ∙ sym q);
       meta-read = λ κs a y z d e p q. metaRead-injective (p ∙ sym q);
       event-read = λ κs a y z d e p q. eventRead-injective (p ∙ sym q);
-      channel-bytes = λ κs a y z d e p q. p ∙ sym q;
-      fits = λ κs a y z d e p q. p ∙ sym q;
-      meta-form = λ κs a y z d e p q. p ∙ sym q;
-      form-legality = λ κs a y z d e p q. verdictOf-injective (p ∙ sym q);
-      legality = λ κs a y z d e p q. verdictOf-injective (p ∙ sym q);
-      channel-length = λ κs a y z d e p q. p ∙ sym q;
-      bytes-length = λ κs a y z d e p q. lengthSaid-injective (p ∙ sym q);
-      form-measure = λ κs a y z d e p q. formLengthSaid-injective (p ∙ sym q);
-      measure-event = λ κs a y z d e p q. lengthSaid-injective (p ∙ sym q);
       event-length = λ κs a y z d e p q. lengthSaid-injective (p ∙ sym q);
-      put-bytes = λ κs a y z d e p q. putLeft-injective (p ∙ sym q);
-      put-event = λ κs a y z d e p q. putLeft-injective (p ∙ sym q);
-      write-event = λ κs a y z d e p q. wroteEvent-injective (a .1 .0 .status) (p ∙ sym q);
+      write-event = λ κs a y z d e p q. wroteEvent-injective (p ∙ sym q);
+      row-length = λ κs a y z d e p q. lengthSaid-injective (p ∙ sym q);
+      write-row = λ κs a y z d e p q. wroteEvent-injective (p ∙ sym q);
     }
 
 lists : Lists
@@ -161,13 +153,19 @@ lists =
     record {
       list-new = λ κs a y z d e p q. heldOf-injective (p ∙ sym q);
       list-read = λ κs a y z d e p q. listRead-injective (p ∙ sym q);
-      list-length = λ κs a y z d e p q. sizeSaid-injective (a .1 .0 .status) (p ∙ sym q);
-      write-list = λ κs a y z d e p q. wroteList-injective (a .1 .0 .status) (p ∙ sym q);
+      cursor-next = λ κs a y z d e p q. nextOf-injective (p ∙ sym q);
+      list-length = λ κs a y z d e p q. sizeSaid-injective (p ∙ sym q);
+      write-list = λ κs a y z d e p q. wroteList-injective (p ∙ sym q);
+      rows-length = λ κs a y z d e p q. sizeSaid-injective (p ∙ sym q);
+      write-rows = λ κs a y z d e p q. wroteList-injective (p ∙ sym q);
       kind-row = λ κs a y z d e p q. rowNumbers-injective (p ∙ sym q);
       event-row = λ κs a y z d e p q. p ∙ sym q;
-      row-event = λ κs a y z d e p q. eventOf-injective (p ∙ sym q);
+      event-of-row = λ κs a y z d e p q. rowAnswer-injective (p ∙ sym q);
+      event-of-row-at = λ κs a y z d e p q. rowAnswer-injective (p ∙ sym q);
       same-event = λ κs a y z d e p q. tells-identical _ y z p q;
       same-list = λ κs a y z d e p q. tells-identical _ y z p q;
+      same-rows = λ κs a y z d e p q. says-identical (rowsAsked (a .0) (a .1 .1 .0)) (Same (now (a .1 .0)) (calledRow (a .0)) (now (a .1 .1 .1 .0)) (calledRow (a .1 .1 .0))) y z p q;
+      same-row-lists = λ κs a y z d e p q. says-identical (listsAsked capacity (now (a .0)) (a .1 .0) (now (a .1 .1 .1 .0)) (a .1 .1 .1 .1 .0)) (SameList (now (a .1 .1 .0)) (rowRecords (a .1 .0) (now (a .0))) (a .1 .0) (now (a .1 .1 .1 .1 .1 .0)) (rowRecords (a .1 .1 .1 .1 .0) (now (a .1 .1 .1 .0))) (a .1 .1 .1 .1 .0)) y z p q;
     }
 
 pub identical : Identical

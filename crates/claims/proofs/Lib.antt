@@ -1,6 +1,6 @@
 pub mod Calls
 pub mod Refusals
-pub mod Left
+pub mod ReadLeaves
 pub mod Stands
 pub mod EventWrites
 pub mod ListLeaves
@@ -12,3 +12,4 @@ pub mod Point2
 pub mod Point3
 pub mod Point3Calls
 pub mod All
+pub mod Entries

@@ -13,8 +13,8 @@ use Rattle.smf.specs.Place.{Span}
 use Rattle.smf.specs.Event.{Event}
 use Rattle.smf.specs.Lists.{filler, Checked, allLegal, illegal, check, encodeList, ListSize, sizeChecked, sizeList, ListWritten, listPut, writeChecked, writeList}
 use Rattle.smf.proofs.Answer.{pick-both, said-refused}
-use Rattle.smf.proofs.Checks as checks
-use Rattle.smf.proofs.Checks.{check-illegal}
+use Rattle.smf.proofs.ListLegality as checks
+use Rattle.smf.proofs.ListLegality.{check-illegal}
 use Rattle.claims.specs.Table.{among, OneOf, By, ofLegality, ofListLength, ofListWriting}
 use Rattle.claims.specs.Leaves.{FirstIllegal, RefusedAt, SizeLeaves, ListLeaves}
 use Rattle.claims.proofs.Refusals.{allAmong, one-of-more, one-of, legal-by}

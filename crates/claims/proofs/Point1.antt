@@ -10,23 +10,26 @@ use Rattle.smf.specs.Write as smf
 use Rattle.smf.specs.Write.{numberBytes, payloadBytes}
 use Rattle.smf.specs.Event.{EventWritten}
 use Rattle.smf.specs.Lists.{ListAt, listAt, heldAs, ListSize, ListWritten}
-use Rattle.refusal.specs.Refusal.{numberOf}
-use Rattle.rules.specs.Rules.{rulesOf}
-use Rattle.rules.specs.declared.Rules.{Rules}
-use Rattle.rules.specs.declared.Running.{Running}
-use Rattle.refusal.specs.declared.Refusal.{Refusal}
-use Rattle.refusal.specs.declared.Refusal.the-variants as refusal
+use Rattle.base.specs.Refusal.{numberOf}
+use Rattle.base.specs.Rules.{rulesOf}
+use Rattle.base.specs.declared.Rules.{Rules}
+use Rattle.base.specs.declared.Running.{Running}
+use Rattle.base.specs.declared.Refusal.{Refusal}
+use Rattle.base.specs.declared.Refusal.the-variants as refusal
 use Rattle.header.specs.Timing.{timingOf}
 use Rattle.event.specs.Event.{eventOf}
+use Rattle.rows.specs.RowEvent.{rowRecord}
+use Rattle.rows.specs.RowLists.{rowRecords}
+use Rattle.track.specs.List.{capacity, recordOf}
 use Rattle.track.specs.Read.{listRead}
 use Rattle.track.specs.declared.read.ReadList.{ReadList}
-use Rattle.claims.specs.Table.{inTable, By, Keeps, ofNumber, ofPayload, ofMeta, ofLegality, ofLength}
+use Rattle.claims.specs.Table.{inTable, By, Keeps, ofNumber, ofPayload, ofMeta, ofLength}
 use Rattle.claims.specs.Stands.{EventOrLeft, ListStands}
 use Rattle.claims.specs.Leaves.{EventLeaves, SizeLeaves, ListLeaves}
 use Rattle.claims.specs.Point1.{Numbered, Point1}
 use Rattle.claims.proofs.Calls as calls
-use Rattle.claims.proofs.Refusals.{by-more, number-at-by, payload-at-by, meta-at-by, width-by, format-by, rate-by, timing-by, timing-bytes-by, time-by, time-of-by, time-bytes-by, seconds-by, position-by, bend-by, bend-float-by, number-bytes-by, payload-bytes-by, write-keeps, settled-by, bytes-length-by, event-size-by, event-length-by, allowed-by, allowed-then-by}
-use Rattle.claims.proofs.Left.{event-or-left}
+use Rattle.claims.proofs.Refusals.{by-more, number-at-by, payload-at-by, meta-at-by, width-by, format-by, rate-by, timing-by, timing-bytes-by, time-by, time-of-by, time-bytes-by, seconds-by, position-by, bend-by, bend-float-by, number-bytes-by, payload-bytes-by, write-keeps, event-length-by}
+use Rattle.claims.proofs.ReadLeaves.{event-or-left}
 use Rattle.claims.proofs.Stands.{list-stands}
 use Rattle.claims.proofs.EventWrites.{event-leaves}
 use Rattle.claims.proofs.ListLeaves.{size-leaves, list-leaves}
@@ -82,18 +85,14 @@ numbered =
       bend-as-int = λ κs a z e told. of (18 ∷ []) told (bend-by _);
       bend-as-f32 = λ κs a z e told. of (18 ∷ []) (told .0) (bend-float-by binary32 _);
       bend-as-f64 = λ κs a z e told. of (18 ∷ []) (told .0) (bend-float-by binary64 _);
-      form-legality = λ κs a z e told. of ofLegality told (allowed-by _ _ _ _);
-      legality = λ κs a z e told. of ofLegality told (settled-by _ _ _);
-      bytes-length = λ κs a z e told. of (18 ∷ []) told (bytes-length-by _ _ _ _);
-      form-measure = λ κs a z e told. of ofLegality told (allowed-then-by _ _ _ _ _);
-      measure-event = λ κs a z e told. of ofLegality told (event-size-by _ _ _ _);
       event-length = λ κs a z e told. of ofLength told (event-length-by _ _ _ _);
+      row-length = λ κs a z e told. of ofLength told (event-length-by _ _ _ _);
     }
 
-list-said : (raw : List ℕ) (at : ℕ) (running : Running) (rules : Rules) (r : ReadList) → listRead r ≡ heldAs 128 (listAt (rulesOf rules) 128 (running .status) raw at)
-    → (l : ListAt) × (listRead r ≡ heldAs 128 l) × ListStands (rulesOf rules) raw 128 (running .status) at l
+list-said : (raw : List ℕ) (at : ℕ) (running : Running) (rules : Rules) (r : ReadList) → listRead r ≡ heldAs capacity (listAt (rulesOf rules) capacity (running .status) raw at)
+    → (l : ListAt) × (listRead r ≡ heldAs capacity l) × ListStands (rulesOf rules) raw capacity (running .status) at l
 list-said raw at running rules r told =
-    (listAt (rulesOf rules) 128 (running .status) raw at, told, list-stands (rulesOf rules) raw at 128 (running .status))
+    (listAt (rulesOf rules) capacity (running .status) raw at, told, list-stands (rulesOf rules) raw at capacity (running .status))
 
 pub point-1 : Point1
 point-1 =
@@ -116,10 +115,19 @@ point-1 =
       write-event = calls.write-event _ (λ event running rules bytes out at r end told.
           subst (λ (w : EventWritten). EventLeaves (running .status) at out w (w .written .answer)) (sym told)
           (event-leaves (rulesOf rules) (running .status) bytes (eventOf event) out at));
+      write-row = calls.write-row _ (λ row running rules bytes out at r end told.
+          subst (λ (w : EventWritten). EventLeaves (running .status) at out w (w .written .answer)) (sym told)
+          (event-leaves (rulesOf rules) (running .status) bytes (rowRecord row) out at));
       list-length = calls.list-length _ (λ list running rules bytes r told.
-          subst (λ (w : ListSize). SizeLeaves (rulesOf rules) bytes (map eventOf (list .records)) (list .count) (running .status) w (w .answer)) (sym told)
-          (size-leaves (rulesOf rules) bytes (map eventOf (list .records)) (list .count) 128 (running .status)));
+          subst (λ (w : ListSize). SizeLeaves (rulesOf rules) bytes (map recordOf (list .records)) (list .count) (running .status) w (w .answer)) (sym told)
+          (size-leaves (rulesOf rules) bytes (map recordOf (list .records)) (list .count) capacity (running .status)));
       write-list = calls.write-list _ (λ list running rules bytes out r end told.
-          subst (λ (w : ListWritten). ListLeaves (rulesOf rules) bytes (map eventOf (list .records)) (list .count) (running .status) out w (w .answer)) (sym told)
-          (list-leaves (rulesOf rules) bytes (map eventOf (list .records)) (list .count) 128 (running .status) out));
+          subst (λ (w : ListWritten). ListLeaves (rulesOf rules) bytes (map recordOf (list .records)) (list .count) (running .status) out w (w .answer)) (sym told)
+          (list-leaves (rulesOf rules) bytes (map recordOf (list .records)) (list .count) capacity (running .status) out));
+      rows-length = calls.rows-length _ (λ rows count running rules bytes r told.
+          subst (λ (w : ListSize). SizeLeaves (rulesOf rules) bytes (rowRecords count rows) count (running .status) w (w .answer)) (sym told)
+          (size-leaves (rulesOf rules) bytes (rowRecords count rows) count capacity (running .status)));
+      write-rows = calls.write-rows _ (λ rows count running rules bytes out r end told.
+          subst (λ (w : ListWritten). ListLeaves (rulesOf rules) bytes (rowRecords count rows) count (running .status) out w (w .answer)) (sym told)
+          (list-leaves (rulesOf rules) bytes (rowRecords count rows) count capacity (running .status) out));
     }

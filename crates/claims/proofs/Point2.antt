@@ -20,17 +20,18 @@ use Rattle.smf.proofs.Answer.{said-of}
 use Rattle.smf.proofs.Number.{smf-read, smf-number}
 use Rattle.smf.proofs.Place.{Reached, NumberReached, number-reached}
 use Rattle.smf.proofs.Event.{legal-exactly}
-use Rattle.rules.specs.Rules.{rulesOf}
+use Rattle.base.specs.Rules.{rulesOf}
 use Rattle.number.specs.Varlen.{numberRead}
-use Rattle.rules.specs.declared.Rules as number
-use Rattle.rules.specs.declared.Running.{Running}
+use Rattle.base.specs.declared.Rules as number
+use Rattle.base.specs.declared.Running.{Running}
 use Rattle.number.specs.declared.varlen.ReadNumber.{ReadNumber}
 use Rattle.event.specs.Event.{eventOf}
-use Rattle.event.specs.declared.track_event.TrackEvent.{TrackEvent}
+use Rattle.event.specs.declared.TrackEvent.{TrackEvent}
+use Rattle.track.specs.List.{capacity}
 use Rattle.track.specs.Read.{listRead}
 use Rattle.track.specs.declared.read.ReadList.{ReadList}
-use Rattle.writing.specs.Write.{wroteEvent}
-use Rattle.writing.specs.declared.WroteEvent.{WroteEvent}
+use Rattle.write.specs.Wrote.{wroteEvent}
+use Rattle.write.specs.declared.answer.WroteEvent.{WroteEvent}
 use Rattle.claims.specs.Calls.{EventListRead}
 use Rattle.claims.specs.Point2.{ownWritten, p1, p2, p3, nth, TwoEvents, OtherEvent, Point2}
 use Rattle.claims.proofs.Calls as calls
@@ -40,15 +41,15 @@ abbrev whole : List (Event Span) → ℕ → ℕ → ListAt
 whole es place running = record { events = es; stop = ended; place = place; running = running }
 
 module _ (rules : Rules) where
-  two-read : listAt rules 128 0 (p1 ++ p2) 0 ≡ whole (event 0 (midi 0 (noteOn 60 64)) ∷ event 0 (midi 0 (noteOn 60 0)) ∷ []) 7 0x90
+  two-read : listAt rules capacity 0 (p1 ++ p2) 0 ≡ whole (event 0 (midi 0 (noteOn 60 64)) ∷ event 0 (midi 0 (noteOn 60 0)) ∷ []) 7 0x90
   unfolding isRunning numberFrom readNumber dataLength readOne readTwo readChannel readStatus readBody afterDelta readRaw messageTwo called mapKind mapEvent named nameRaw readEvent goOn readMore readList listAt
   two-read = refl
 
-  one-read : listAt rules 128 0 p1 0 ≡ whole (event 0 (midi 0 (noteOn 60 64)) ∷ []) 4 0x90
+  one-read : listAt rules capacity 0 p1 0 ≡ whole (event 0 (midi 0 (noteOn 60 64)) ∷ []) 4 0x90
   unfolding isRunning numberFrom readNumber dataLength readOne readTwo readChannel readStatus readBody afterDelta readRaw messageTwo called mapKind mapEvent named nameRaw readEvent goOn readMore readList listAt
   one-read = refl
 
-  tempo-read : listAt rules 128 0 p3 0 ≡ whole (event 0 (meta (tempo 500000)) ∷ []) 7 0
+  tempo-read : listAt rules capacity 0 p3 0 ≡ whole (event 0 (meta (tempo 500000)) ∷ []) 7 0
   unfolding isRunning numberFrom readNumber payloadAfter readPayload dataLength readMeta readStatus readBody afterDelta readRaw isText calledMeta called mapMeta mapKind mapEvent named nameRaw readEvent goOn readMore readList listAt
   tempo-read = refl
 
@@ -74,22 +75,22 @@ kinds s t same = note (ap (λ (e : Event (List ℕ)). e .kind) same) where
   note : _≡_ {A = Kind (List ℕ)} (midi 0 (noteOn 60 64)) (meta (tempo 500000)) → ⊥
   note e = let z : _≡_ {A = ℕ} 0 1 = cc in omega arith
 
-first-is : (r : ReadList) (e : Event Span) (es : List (Event Span)) (place running : ℕ) → listRead r ≡ heldAs 128 (whole (e ∷ es) place running) → nth r 0 ≡ e
+first-is : (r : ReadList) (e : Event Span) (es : List (Event Span)) (place running : ℕ) → listRead r ≡ heldAs capacity (whole (e ∷ es) place running) → nth r 0 ≡ e
 unfolding holding
 first-is r e es place running h = ap (λ (l : ListHeld). getD (l .list .records) 0 filler) h
 
-second-is : (r : ReadList) (d e : Event Span) (es : List (Event Span)) (place running : ℕ) → listRead r ≡ heldAs 128 (whole (d ∷ e ∷ es) place running) → nth r 1 ≡ e
+second-is : (r : ReadList) (d e : Event Span) (es : List (Event Span)) (place running : ℕ) → listRead r ≡ heldAs capacity (whole (d ∷ e ∷ es) place running) → nth r 1 ≡ e
 unfolding holding
 second-is r d e es place running h = ap (λ (l : ListHeld). getD (l .list .records) 1 filler) h
 
-count-is : (r : ReadList) (es : List (Event Span)) (place running : ℕ) → listRead r ≡ heldAs 128 (whole es place running) → listRead r .list .count ≡ length es
+count-is : (r : ReadList) (es : List (Event Span)) (place running : ℕ) → listRead r ≡ heldAs capacity (whole es place running) → listRead r .list .count ≡ length es
 unfolding holding
 count-is r es place running h = ap (λ (l : ListHeld). l .list .count) h
 
-two : (raw : List ℕ) (at : ℕ) (running : Running) (rules : number.Rules) (r : ReadList) → listRead r ≡ heldAs 128 (listAt (rulesOf rules) 128 (running .status) raw at)
+two : (raw : List ℕ) (at : ℕ) (running : Running) (rules : number.Rules) (r : ReadList) → listRead r ≡ heldAs capacity (listAt (rulesOf rules) capacity (running .status) raw at)
     → raw ≡ p1 ++ p2 → at ≡ 0 → running .status ≡ 0 → TwoEvents raw r
 two raw at running rules r told q z none =
-    let h : listRead r ≡ heldAs 128 (whole (struck ∷ released ∷ []) 7 0x90) = rw (q, z, none, two-read (rulesOf rules)) at told in
+    let h : listRead r ≡ heldAs capacity (whole (struck ∷ released ∷ []) 7 0x90) = rw (q, z, none, two-read (rulesOf rules)) at told in
     let first = first-is r struck (released ∷ []) 7 0x90 h in
     let second = second-is r struck released [] 7 0x90 h in
     record {
@@ -101,16 +102,16 @@ two raw at running rules r told q z none =
     }
 
 other : (raw : List ℕ) (r : ReadList) → nth r 0 ≡ struck
-    → (raw′ : List ℕ) (at : ℕ) (running : Running) (rules : number.Rules) (r′ : ReadList) → listRead r′ ≡ heldAs 128 (listAt (rulesOf rules) 128 (running .status) raw′ at)
+    → (raw′ : List ℕ) (at : ℕ) (running : Running) (rules : number.Rules) (r′ : ReadList) → listRead r′ ≡ heldAs capacity (listAt (rulesOf rules) capacity (running .status) raw′ at)
     → OtherEvent raw r raw′ at running rules r′
 other raw r first raw′ at running rules r′ told q z none =
-    let h : listRead r′ ≡ heldAs 128 (whole (slow ∷ []) 7 0) = rw (q, z, none, tempo-read (rulesOf rules)) at told in
+    let h : listRead r′ ≡ heldAs capacity (whole (slow ∷ []) 7 0) = rw (q, z, none, tempo-read (rulesOf rules)) at told in
     (count-is r′ (slow ∷ []) 7 0 h, (λ same. kinds raw raw′ (rw (first, first-is r′ slow [] 7 0 h) at same)))
 
-one : (raw : List ℕ) (at : ℕ) (running : Running) (rules : number.Rules) (r : ReadList) → listRead r ≡ heldAs 128 (listAt (rulesOf rules) 128 (running .status) raw at)
+one : (raw : List ℕ) (at : ℕ) (running : Running) (rules : number.Rules) (r : ReadList) → listRead r ≡ heldAs capacity (listAt (rulesOf rules) capacity (running .status) raw at)
     → raw ≡ p1 → at ≡ 0 → running .status ≡ 0 → (listRead r .list .count ≡ 1) × EventListRead (OtherEvent raw r)
 one raw at running rules r told q z none =
-    let h : listRead r ≡ heldAs 128 (whole (struck ∷ []) 4 0x90) = rw (q, z, none, one-read (rulesOf rules)) at told in
+    let h : listRead r ≡ heldAs capacity (whole (struck ∷ []) 4 0x90) = rw (q, z, none, one-read (rulesOf rules)) at told in
     (count-is r (struck ∷ []) 4 0x90 h, calls.read-list (OtherEvent raw r) (other raw r (first-is r struck [] 4 0x90 h)))
 
 -- a legal event that has room
@@ -122,9 +123,9 @@ legal-written rules running bytes e out at l is h room =
     rw (is, h, le-leb _ _ room, x .2)
 
 legal-said : (event : TrackEvent) (running : Running) (rules : number.Rules) (bytes out : List ℕ) (at : ℕ) (r : WroteEvent) (end : List ℕ)
-    → wroteEvent (running .status) r end ≡ writeEvent (rulesOf rules) (running .status) bytes (eventOf event) out at
+    → wroteEvent r end ≡ writeEvent (rulesOf rules) (running .status) bytes (eventOf event) out at
     → (e : Event (List ℕ)) → isRunning (running .status) ≡ true → legal (rulesOf rules) bytes (eventOf event) ≡ gives e → at + length (encodeEvent (running .status) e) ≤ length out
-    → wroteEvent (running .status) r end ≡ ownWritten (running .status) e out at
+    → wroteEvent r end ≡ ownWritten (running .status) e out at
 legal-said event running rules bytes out at r end told e is h room = told ∙ legal-written (rulesOf rules) (running .status) bytes (eventOf event) out at e is h room
 
 -- Numbers
@@ -158,6 +159,7 @@ point-2 =
       reads = calls.read-event _ (λ raw at running rules r told. told);
       reads-lists = calls.read-list _ (λ raw at running rules r told. told);
       writes = calls.write-event _ (λ event running rules bytes out at r end told. told);
+      writes-rows = calls.write-row _ (λ row running rules bytes out at r end told. told);
       writes-legal = calls.write-event _ legal-said;
       smf-numbers = calls.read-u7 _ number-said;
       smf-only = calls.read-u7 _ only-said;

@@ -13,9 +13,9 @@ use Rattle.smf.specs.Lists.{readList, RecordsLegal, listed, encodeList, ListWri
 use Rattle.smf.proofs.Write.{length-over}
 use Rattle.smf.proofs.Legal.{all-strictly}
 use Rattle.smf.proofs.Lists.{ReadsBack, list-reads-back, list-read, list-valid}
-use Rattle.smf.proofs.Checks.{all-legal}
+use Rattle.smf.proofs.ListLegality.{all-legal}
 use Rattle.smf.proofs.ListWrites.{write-wrote, write-refused, write-fits, front-own, front-beyond}
-use Rattle.claims.specs.Point3.{ReadsStrictly, Fits, Accepted, Written, Writes}
+use Rattle.claims.specs.Point3.{ReadsStrictly, Fits, Accepted, ListWriteSays, Writes}
 
 module _ (rules : Rules) (most running : ℕ) (bytes : List ℕ) (records : List (Event Span)) (count : ℕ) where
   abbrev events : List (Event (List ℕ))
@@ -71,7 +71,7 @@ module _ (rules : Rules) (most running : ℕ) (bytes : List ℕ) (records : List
         let b = back (a .valid) (a .few) (a .legal) in
         (a .few, a .legal, (own, omega (arith, a .size, a .room), record { events = b .events; all = b .stop }))
 
-    says : Written rules most running bytes records count buffer written
+    says : ListWriteSays rules most running bytes records count buffer written
     says =
         record {
           accepts = ((λ w. some-fit (w .0) (w .1)), (λ f. (length own, own-fit f)));

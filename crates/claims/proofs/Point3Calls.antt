@@ -15,68 +15,70 @@ use Rattle.smf.proofs.Legal.{legal-strictly}
 use Rattle.smf.proofs.Lists.{list-ended}
 use Rattle.smf.proofs.ListPlaces.{list-reached}
 use Rattle.smf.proofs.ListWrites.{write-wrote, front-own}
-use Rattle.rules.specs.Rules.{rulesOf}
-use Rattle.rules.specs.declared.Rules as number
-use Rattle.rules.specs.declared.Running.{Running}
+use Rattle.base.specs.Rules.{rulesOf}
+use Rattle.base.specs.declared.Rules as number
+use Rattle.base.specs.declared.Running.{Running}
 use Rattle.event.specs.Event.{eventOf}
-use Rattle.event.specs.declared.track_event.TrackEvent.{TrackEvent}
-use Rattle.writing.specs.Write.{wroteEvent}
-use Rattle.writing.specs.declared.WroteEvent.{WroteEvent}
-use Rattle.writing.specs.declared.WroteEvent.the-variants as event
+use Rattle.event.specs.declared.TrackEvent.{TrackEvent}
+use Rattle.track.specs.List.{capacity, recordOf}
 use Rattle.track.specs.Read.{listRead}
 use Rattle.track.specs.declared.list.EventList.{EventList}
-use Rattle.compose.specs.Written.{wroteList}
-use Rattle.claims.specs.Point3.{Accepted, Written, ReadBack, ReadAgain, NeverBegins, Point3}
+use Rattle.rows.specs.RowLists.{rowRecords}
+use Rattle.write.specs.Wrote.{wroteEvent}
+use Rattle.write.specs.ListAnswers.{wroteList}
+use Rattle.write.specs.declared.answer.WroteEvent.{WroteEvent}
+use Rattle.write.specs.declared.answer.WroteEvent.the-variants as event
+use Rattle.claims.specs.Point3.{Accepted, ListWriteSays, ReadBack, ReadAgain, NeverBegins, Point3}
 use Rattle.claims.specs.Calls.{EventListRead, WriteEvent}
 use Rattle.claims.proofs.Calls as calls
 use Rattle.claims.proofs.Point3.{writes}
 use Rattle.claims.proofs.EventWrites.{event-wrote}
 
 -- what the answer's meaning says of the buffer at the end
-event-end : (running : ℕ) (r : WroteEvent) (end : List ℕ) → wroteEvent running r end .written .buffer ≡ end
-event-end running (event.Next p) end = refl
-event-end running (event.Refused n) end = refl
+event-end : (r : WroteEvent) (end : List ℕ) → wroteEvent r end .written .buffer ≡ end
+event-end (event.Next p) end = refl
+event-end (event.Refused n) end = refl
 
 -- a list that was written, read again
 module _ (rules : Rules) (running : ℕ) (bytes : List ℕ) (records : List (Event Span)) (count : ℕ) (out : List ℕ) (n : ℕ)
-    (e : writeList rules 128 running bytes records count out .answer ≡ wrote n) where
+    (e : writeList rules capacity running bytes records count out .answer ≡ wrote n) where
   abbrev w : ListWritten
-  w = writeList rules 128 running bytes records count out
+  w = writeList rules capacity running bytes records count out
 
   abbrev raw : List ℕ
   raw = take n (w .buffer)
 
   abbrev read : ListAt
-  read = listAt (strictOf rules) 128 running raw 0
+  read = listAt (strictOf rules) capacity running raw 0
 
   abbrev itself : Event Span → Event (List ℕ)
   itself = mapEvent (bytesOf raw)
 
-  accepted : Accepted rules 128 running bytes records count out w n
-  accepted = writes rules 128 running bytes records count out .accepted n e
+  accepted : Accepted rules capacity running bytes records count out w n
+  accepted = writes rules capacity running bytes records count out .accepted n e
 
   size : length raw ≡ n
-  size = length-take-le n (w .buffer) (omega (arith, accepted .long, write-wrote rules 128 running bytes records count out n e .room))
+  size = length-take-le n (w .buffer) (omega (arith, accepted .long, write-wrote rules capacity running bytes records count out n e .room))
 
   -- the events of the records that were read are those that were written
   events : map itself (read .events) ≡ listed bytes records count
-  events = list-reached (strictOf rules) 128 running raw 0 .events ∙ accepted .reads .events
+  events = list-reached (strictOf rules) capacity running raw 0 .events ∙ accepted .reads .events
 
-  as-many : length records ≡ 128 → length (read .events) ≡ count
+  as-many : length records ≡ capacity → length (read .events) ≡ count
   as-many full =
-      let few = write-wrote rules 128 running bytes records count out n e .few in
+      let few = write-wrote rules capacity running bytes records count out n e .few in
       let a : length (read .events) ≡ length (listed bytes records count) = sym (length-map (read .events) itself) ∙ ap length events in
       let b : length (listed bytes records count) ≡ length (take count records) = length-map (take count records) (mapEvent (bytesOf bytes)) in
       a ∙ b ∙ length-take-le count records (omega (arith, few))
 
-  same : length records ≡ 128 → counted raw (holding 128 (read .events) .records) (holding 128 (read .events) .count) ≡ counted bytes records count
+  same : length records ≡ capacity → counted raw (holding capacity (read .events) .records) (holding capacity (read .events) .count) ≡ counted bytes records count
   unfolding holding
-  same full = rw (take-append-seam (read .events) (replicate (128 - length (read .events)) filler), events, as-many full)
+  same full = rw (take-append-seam (read .events) (replicate (capacity - length (read .events)) filler), events, as-many full)
 
-  read-back : length records ≡ 128 → ReadBack raw (heldAs 128 read) n (w .running) bytes records count
+  read-back : length records ≡ capacity → ReadBack raw (heldAs capacity read) n (w .running) bytes records count
   unfolding listAt
   read-back full =
-      let end = list-ended (strictOf rules) 128 running raw (accepted .reads .all) in
+      let end = list-ended (strictOf rules) capacity running raw (accepted .reads .all) in
       record {
         stop = accepted .reads .all;
         place = omega (arith, size, ap length end);
@@ -105,8 +107,8 @@ module _ (running : ℕ) (rules rules′ : Rules) (bytes bytes′ : List ℕ) (e
       (sym (front rules bytes e out n h) ∙ q ∙ ap (λ (l : List ℕ). l ++ more) (front rules′ bytes′ e′ out′ n′ h′))
 
 back : (rules rules′ : Rules) (running : ℕ) (bytes : List ℕ) (records : List (Event Span)) (count : ℕ) (out : List ℕ) (n at : ℕ) (w : ListWritten) (raw : List ℕ) (held : ListHeld)
-    → w ≡ writeList rules 128 running bytes records count out → w .answer ≡ wrote n → length records ≡ 128
-    → held ≡ heldAs 128 (listAt rules′ 128 running raw at) → raw ≡ take n (w .buffer) → at ≡ 0 → rules′ ≡ strictOf rules
+    → w ≡ writeList rules capacity running bytes records count out → w .answer ≡ wrote n → length records ≡ capacity
+    → held ≡ heldAs capacity (listAt rules′ capacity running raw at) → raw ≡ take n (w .buffer) → at ≡ 0 → rules′ ≡ strictOf rules
     → ReadBack raw held n (w .running) bytes records count
 back rules rules′ running bytes records count out n at w raw held told e full told′ q z strict =
     rw (told′, q, z, strict, told) (read-back rules running bytes records count out n (rw told at e) full)
@@ -121,29 +123,32 @@ begins running running′ rules rules′ bytes bytes′ e e′ out out′ at at�
     never-begins running rules rules′ bytes bytes′ e e′ out out′ n n′ h₀ h₁ alike more (rw (told, z, told′, z′, same) at q)
 
 again : (list : EventList) (running : Running) (rules : number.Rules) (bytes out : List ℕ) (w : ListWritten)
-    → w ≡ writeList (rulesOf rules) 128 (running .status) bytes (map eventOf (list .records)) (list .count) out
-    → (n : ℕ) → w .answer ≡ wrote n → length (list .records) ≡ 128 → EventListRead (ReadAgain list running rules bytes w n)
+    → w ≡ writeList (rulesOf rules) capacity (running .status) bytes (map recordOf (list .records)) (list .count) out
+    → (n : ℕ) → w .answer ≡ wrote n → length (list .records) ≡ capacity → EventListRead (ReadAgain list running rules bytes w n)
 again list running rules bytes out w told n e full =
     calls.read-list (ReadAgain list running rules bytes w n) (λ raw at running′ rules′ r told′ q z same strict.
-    let full′ : length (map eventOf (list .records)) ≡ 128 = length-map (list .records) eventOf ∙ full in
-    back (rulesOf rules) (rulesOf rules′) (running .status) bytes (map eventOf (list .records)) (list .count) out n at w raw (listRead r)
+    let full′ : length (map recordOf (list .records)) ≡ capacity = length-map (list .records) recordOf ∙ full in
+    back (rulesOf rules) (rulesOf rules′) (running .status) bytes (map recordOf (list .records)) (list .count) out n at w raw (listRead r)
     told e full′ (rw same at told′) q z strict)
 
 never : (e : TrackEvent) (running : Running) (rules : number.Rules) (bytes out : List ℕ) (at : ℕ) (r : WroteEvent) (end : List ℕ)
-    → wroteEvent (running .status) r end ≡ writeEvent (rulesOf rules) (running .status) bytes (eventOf e) out at
-    → (n : ℕ) → at ≡ 0 → wroteEvent (running .status) r end .written .answer ≡ gives n → WriteEvent (NeverBegins e running rules bytes (take n end))
+    → wroteEvent r end ≡ writeEvent (rulesOf rules) (running .status) bytes (eventOf e) out at
+    → (n : ℕ) → at ≡ 0 → wroteEvent r end .written .answer ≡ gives n → WriteEvent (NeverBegins e running rules bytes (take n end))
 never e running rules bytes out at r end told n z h =
     calls.write-event (NeverBegins e running rules bytes (take n end)) (λ e′ running′ rules′ bytes′ out′ at′ r′ end′ told′ n′ more z′ same alike h′ q.
     begins (running .status) (running′ .status) (rulesOf rules) (rulesOf rules′) bytes bytes′ (eventOf e) (eventOf e′) out out′ at at′ n n′
-    (wroteEvent (running .status) r end) (wroteEvent (running′ .status) r′ end′) (ap (λ (x : Running). x .status) same) alike told z h told′ z′ h′ more
-    (rw (event-end (running .status) r end, event-end (running′ .status) r′ end′) q))
+    (wroteEvent r end) (wroteEvent r′ end′) (ap (λ (x : Running). x .status) same) alike told z h told′ z′ h′ more
+    (rw (event-end r end, event-end r′ end′) q))
 
 pub point-3 : Point3
 point-3 =
     record {
       writes = calls.write-list _ (λ list running rules bytes out r end told.
-          subst (Written (rulesOf rules) 128 (running .status) bytes (map eventOf (list .records)) (list .count) out) (sym told)
-          (writes (rulesOf rules) 128 (running .status) bytes (map eventOf (list .records)) (list .count) out));
-      reads-back = calls.write-list _ (λ list running rules bytes out r end told. again list running rules bytes out (wroteList (running .status) r end) told);
+          subst (ListWriteSays (rulesOf rules) capacity (running .status) bytes (map recordOf (list .records)) (list .count) out) (sym told)
+          (writes (rulesOf rules) capacity (running .status) bytes (map recordOf (list .records)) (list .count) out));
+      writes-rows = calls.write-rows _ (λ rows count running rules bytes out r end told.
+          subst (ListWriteSays (rulesOf rules) capacity (running .status) bytes (rowRecords count rows) count out) (sym told)
+          (writes (rulesOf rules) capacity (running .status) bytes (rowRecords count rows) count out));
+      reads-back = calls.write-list _ (λ list running rules bytes out r end told. again list running rules bytes out (wroteList r end) told);
       prefix-free = calls.write-event _ never;
     }

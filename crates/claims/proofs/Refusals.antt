@@ -20,15 +20,10 @@ use Rattle.smf.specs.Seconds.{secondsOf}
 use Rattle.smf.specs.Bend.{askBend, askFloat}
 use Rattle.smf.specs.Kind.{isText, narrow, calledMeta}
 use Rattle.smf.specs.MetaAt.{readMetaMessage, metaAt}
-use Rattle.smf.specs.Event.{Event, kindFits, kindLoad, inside, isNamed, kindMisnamed, noSpan, spanLength, legal, eventBytes}
+use Rattle.smf.specs.Event.{Event, kindFits, kindLoad, inside, kindMisnamed, noSpan, spanLength, legal}
 use Rattle.smf.proofs.Answer.{by-test, pick-both, pick-test, both}
-use Rattle.meta.specs.Meta.{spanOf}
-use Rattle.legal.specs.Legal.{settled, loadAllowed, unknownAllowed, formAllowed, eventAllowed}
-use Rattle.shape.specs.declared.form.Form.{Form}
-use Rattle.shape.specs.declared.form.Form.the-variants.{AboveWidth, System, Typed, Unknown, Fixed}
-use Rattle.shape.specs.Channel.{channelFits, channelRaw}
-use Rattle.shape.specs.declared.channel.Channel.{Channel}
-use Rattle.measure.specs.Length.{rawSize, eventSize}
+use Rattle.write.specs.Raw.{rawLegal}
+use Rattle.write.specs.Size.{eventSize, sizeEvent}
 use Rattle.claims.specs.Table.{inTable, among, OneOf, By, Keeps, ofNumber, ofPayload, ofMeta, ofLegality, ofLength}
 
 -- going on with a value
@@ -268,44 +263,17 @@ module _ (rules : Rules) (bytes : List ℕ) where
       refl)
       refl
 
-  pub settled-by : (e : Event Span) → By ofLegality (settled (legal rules bytes e))
-  settled-by e = then-by ofLegality (legal rules bytes e) _ (legal-by e) (λ l. tt)
+  raw-legal-by : (e : Event Span) → By ofLegality (rawLegal rules bytes e)
+  unfolding rawLegal
+  raw-legal-by e = then-by ofLegality (legal rules bytes e) _ (legal-by e) (λ l. tt)
 
-  pub event-bytes-by : (running : ℕ) (e : Event Span) → By ofLegality (eventBytes rules running bytes e)
-  unfolding eventBytes
-  event-bytes-by running e = then-by ofLegality (legal rules bytes e) _ (legal-by e) (λ l. tt)
-
-  pub event-size-by : (running : ℕ) (e : Event Span) → By ofLegality (eventSize rules running bytes e)
+  event-size-by : (running : ℕ) (e : Event Span) → By ofLegality (eventSize rules running bytes e)
   unfolding eventSize
-  event-size-by running e = then-by ofLegality (eventBytes rules running bytes e) _ (event-bytes-by running e) (λ bs. tt)
+  event-size-by running e = then-by ofLegality (rawLegal rules bytes e) _ (raw-legal-by e) (λ raw. tt)
 
-  pub event-length-by : (running : ℕ) (e : Event Span) → By ofLength (pick (isRunning running) (eventSize rules running bytes e) (refuses 1))
+  pub event-length-by : (running : ℕ) (e : Event Span) → By ofLength (sizeEvent rules running bytes e)
+  unfolding sizeEvent
   event-length-by running e =
       pick-both (By ofLength) (isRunning running)
       (by-more ofLength ofLegality (eventSize rules running bytes e) refl (event-size-by running e))
       refl
-
--- a channel message's bytes
-pub bytes-length-by : (running delta channel : ℕ) (c : Channel) → By (18 ∷ []) (pick (channelFits delta channel c) (gives (rawSize running delta (channelRaw c))) (refuses 18))
-bytes-length-by running delta channel c = pick-both (By (18 ∷ [])) (channelFits delta channel c) tt refl
-
-module _ (rules : Rules) (bytes : List ℕ) where
-  load-by : (span : Span) → By ofLegality (loadAllowed bytes span)
-  unfolding loadAllowed
-  load-by span = pick-both (By ofLegality) (inside bytes span) (pick-both (By ofLegality) (ltb (span .length) (2 ^ 28)) tt refl) refl
-
-  form-by : (form : Form) → By ofLegality (formAllowed rules bytes form)
-  unfolding formAllowed unknownAllowed
-  form-by AboveWidth = refl
-  form-by (System status load) = load-by (spanOf load)
-  form-by (Typed t load) = load-by (spanOf load)
-  form-by (Unknown t load) =
-      then-by ofLegality (loadAllowed bytes (spanOf load)) _ (load-by (spanOf load)) (λ x. pick-both (By ofLegality) (isNamed rules t (load .length)) refl tt)
-  form-by (Fixed t own) = pick-both (By ofLegality) (leb (own .n) 5) tt refl
-
-  pub allowed-by : (delta : ℕ) (form : Form) → By ofLegality (eventAllowed rules bytes delta form)
-  unfolding eventAllowed
-  allowed-by delta form = pick-both (By ofLegality) (ltb delta (2 ^ 28)) (form-by form) refl
-
-  pub allowed-then-by : {B : Type 0} (delta : ℕ) (form : Form) (f : Unit {0} → B) → By ofLegality (andThen (eventAllowed rules bytes delta form) (λ x. gives (f x)))
-  allowed-then-by delta form f = then-by ofLegality (eventAllowed rules bytes delta form) (λ x. gives (f x)) (allowed-by delta form) (λ x. tt)

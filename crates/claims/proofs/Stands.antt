@@ -8,15 +8,14 @@ use lib.ListN.{length, drop}
 use Rattle.smf.specs.Answer.{Rules}
 use Rattle.smf.specs.Running.{isRunning}
 use Rattle.smf.specs.Place.{Sited}
-use Rattle.smf.specs.Wire.{Reading, reads, refused}
-use Rattle.smf.specs.Event.{EventAt, eventAt}
+use Rattle.smf.specs.Event.{EventAt, ReadAt, readsAt, refusedAt, eventAt}
 use Rattle.smf.specs.Lists.{Stop, ended, full, stopped, ListAt, listPlaced, readMore, listAt}
 use Rattle.smf.proofs.Answer.{by-test, by-lt}
 use Rattle.smf.proofs.Place.{site-begun}
 use Rattle.smf.proofs.Reading.{event-invalid}
 use Rattle.smf.proofs.ListPlaces.{inFront, list-begun, list-invalid, more-end, more-full, more-refused, more-step, more-next}
 use Rattle.claims.specs.Stands.{EventOrLeft, Stand, none, next, Why, ListStands}
-use Rattle.claims.proofs.Left.{event-or-left}
+use Rattle.claims.proofs.ReadLeaves.{event-or-left}
 
 module _ (rules : Rules) (bytes : List ℕ) (at : ℕ) where
   -- so many more, from a place that was reached
@@ -45,12 +44,12 @@ module _ (rules : Rules) (bytes : List ℕ) (at : ℕ) where
 
   one : (most running place : ℕ) → Sited bytes at place → place < length bytes
       → ((r p : ℕ) → Sited bytes at p → More most r p (more most r p))
-      → (a : Reading EventAt) → eventAt rules running bytes place ≡ a → EventOrLeft rules bytes running place a
+      → (a : ReadAt) → eventAt rules running bytes place ≡ a → EventOrLeft rules bytes running place a
       → More (suc most) running place (more (suc most) running place)
-  one most running place site h others (refused n after) e l =
+  one most running place site h others (refusedAt n used after) e l =
       rw (more-refused rules running bytes at place site most h e)
-      (record { stand = none; few = omega arith; why = (l .0, (after, e)); before = λ m q. h })
-  one most running place site h others (reads a) e l =
+      (record { stand = none; few = omega arith; why = (l .0, (after, e ∙ ap (λ (k : ℕ). refusedAt n k after) (l .1))); before = λ m q. h })
+  one most running place site h others (readsAt a) e l =
       let m = others (a .running) (place + a .used) (more-next rules running bytes at place site h e .0) in
       rw (more-step rules running bytes at place site most h e)
       (record {
@@ -80,8 +79,8 @@ module _ (rules : Rules) (bytes : List ℕ) (at : ℕ) where
 
     not-valid : isRunning running ≡ false → ListStands rules bytes most running at list
     not-valid not =
-        let e : eventAt rules running bytes at ≡ refused 1 running = sym (event-invalid rules running bytes at not) in
-        let l : EventOrLeft rules bytes running at (refused 1 running) = subst (EventOrLeft rules bytes running at) e (event-or-left rules bytes running at) in
+        let e : eventAt rules running bytes at ≡ refusedAt 1 0 running = sym (event-invalid rules running bytes at not) in
+        let l : EventOrLeft rules bytes running at (refusedAt 1 0 running) = subst (EventOrLeft rules bytes running at) e (event-or-left rules bytes running at) in
         rw (list-invalid rules most running bytes at not)
         (record {
           stand = none;

@@ -9,31 +9,34 @@ use denote.Ref.{now}
 use denote.Triple.Clauses.{AtExit}
 use borrow.Fn.Kind.{PK, RK}
 use borrow.Fn.Kinds.{Dens, Out, resT, endedOf}
-use Rattle.rules.specs.declared.Rules.{Rules}
-use Rattle.rules.specs.declared.Running.{Running}
-use Rattle.rules.specs.declared.Range.{Range}
-use Rattle.number.specs.declared.varlen.u28.{u28}
+use Rattle.base.specs.declared.Rules.{Rules}
+use Rattle.base.specs.declared.Running.{Running}
+use Rattle.base.specs.declared.Range.{Range}
+use Rattle.number.specs.declared.u28.{u28}
 use Rattle.number.specs.declared.varlen.ReadNumber.{ReadNumber}
-use Rattle.payload.specs.declared.ReadSlice.{ReadSlice}
-use Rattle.number.specs.declared.varlen.Written.{Written}
+use Rattle.number.specs.declared.payload.ReadSlice.{ReadSlice}
+use Rattle.number.specs.declared.varlen.WroteNumber.{WroteNumber}
 use Rattle.meta.specs.declared.ReadMeta.{ReadMeta}
-use Rattle.event.specs.declared.track_event.TrackEvent.{TrackEvent}
+use Rattle.event.specs.declared.TrackEvent.{TrackEvent}
 use Rattle.event.specs.declared.read.ReadEvent.{ReadEvent}
 use Rattle.track.specs.declared.list.EventList.{EventList}
 use Rattle.track.specs.declared.read.ReadList.{ReadList}
-use Rattle.writing.specs.declared.WroteEvent.{WroteEvent}
-use Rattle.lengths.specs.declared.ListLength as length
-use Rattle.compose.specs.declared.WroteList.{WroteList}
-use Rattle.number.proofs.varlen.u28.read_u7 as read-u7
-use Rattle.number.proofs.varlen.u28.write_varlen as write-varlen
-use Rattle.payload.proofs.read_varlen_slice as read-varlen-slice
-use Rattle.payload.proofs.write_varlen_slice as write-varlen-slice
+use Rattle.write.specs.declared.answer.WroteEvent.{WroteEvent}
+use Rattle.write.specs.declared.answer.ListLength as length
+use Rattle.write.specs.declared.answer.WroteList.{WroteList}
+use Rattle.number.proofs.u28.read_u7 as read-u7
+use Rattle.number.proofs.u28.write_varlen as write-varlen
+use Rattle.number.proofs.payload.read_varlen_slice as read-varlen-slice
+use Rattle.number.proofs.payload.write_varlen_slice as write-varlen-slice
 use Rattle.meta.proofs.MetaMessage.read as read-meta
-use Rattle.event.proofs.track_event.TrackEvent.read as read-event
+use Rattle.event.proofs.TrackEvent.read as read-event
 use Rattle.track.proofs.list.EventList.read as read-list
-use Rattle.writing.proofs.write_event as write-event
-use Rattle.lengths.proofs.list_length as list-length
-use Rattle.compose.proofs.write_list as write-list
+use Rattle.write.proofs.one.write_event as write-event
+use Rattle.write.proofs.one.write_row as write-row
+use Rattle.write.proofs.records.list_length as list-length
+use Rattle.write.proofs.records.write_list as write-list
+use Rattle.write.proofs.row_lists.rows_length as rows-length
+use Rattle.write.proofs.row_lists.write_rows as write-rows
 
 module _ (n : ℕ) (ps : List (PK n)) (r : RK n) (Told : Out n ps r) where
   -- whatever the promise permits, the claim holds of it
@@ -56,7 +59,7 @@ abbrev pub ReadU7 : (List ℕ → ℕ → Rules → ReadNumber → Type 0) → T
 ReadU7 Claim = Always 1 read-u7.Kinds.ps read-u7.Kinds.r read-u7.Reads.Learnt (λ κs a r e. Claim (now (a .0)) (a .1 .0) (a .1 .1 .0) r)
 
 -- `self.write_varlen(out, at)`, its answer, and what `out` holds at the end
-abbrev pub WriteVarlen : (u28 → List ℕ → ℕ → Written → List ℕ → Type 0) → Type 0
+abbrev pub WriteVarlen : (u28 → List ℕ → ℕ → WroteNumber → List ℕ → Type 0) → Type 0
 WriteVarlen Claim =
     Always 1 write-varlen.Kinds.ps write-varlen.Kinds.r write-varlen.Reads.Learnt
     (λ κs a r e. Claim (a .0) (now (a .1 .0)) (a .1 .1 .0) r (now (e .1 .0)))
@@ -68,7 +71,7 @@ ReadVarlenSlice Claim =
     (λ κs a r e. Claim (now (a .0)) (a .1 .0) (a .1 .1 .0) r)
 
 -- `write_varlen_slice(bytes, slice, out, at)`, its answer, and what `out` holds at the end
-abbrev pub WriteVarlenSlice : (List ℕ → Range → List ℕ → ℕ → Written → List ℕ → Type 0) → Type 0
+abbrev pub WriteVarlenSlice : (List ℕ → Range → List ℕ → ℕ → WroteNumber → List ℕ → Type 0) → Type 0
 WriteVarlenSlice Claim =
     Always 2 write-varlen-slice.Kinds.ps write-varlen-slice.Kinds.r write-varlen-slice.Reads.Learnt
     (λ κs a r e. Claim (now (a .0)) (a .1 .0) (now (a .1 .1 .0)) (a .1 .1 .1 .0) r (now (e .1 .1 .0)))
@@ -96,6 +99,12 @@ WriteEvent Claim =
     Always 2 write-event.Kinds.ps write-event.Kinds.r write-event.Reads.Learnt
     (λ κs a r e. Claim (a .0) (a .1 .0) (a .1 .1 .0) (now (a .1 .1 .1 .0)) (now (a .1 .1 .1 .1 .0)) (a .1 .1 .1 .1 .1 .0) r (now (e .1 .1 .1 .1 .0)))
 
+-- `write_row(row, running, rules, bytes, out, at)`, its answer, and what `out` holds at the end
+abbrev pub WriteRow : (List ℕ → Running → Rules → List ℕ → List ℕ → ℕ → WroteEvent → List ℕ → Type 0) → Type 0
+WriteRow Claim =
+    Always 2 write-row.Kinds.ps write-row.Kinds.r write-row.Reads.Learnt
+    (λ κs a r e. Claim (a .0) (a .1 .0) (a .1 .1 .0) (now (a .1 .1 .1 .0)) (now (a .1 .1 .1 .1 .0)) (a .1 .1 .1 .1 .1 .0) r (now (e .1 .1 .1 .1 .0)))
+
 -- `list_length(list, running, rules, bytes)`, and its answer
 abbrev pub ListLength : (EventList → Running → Rules → List ℕ → length.ListLength → Type 0) → Type 0
 ListLength Claim =
@@ -107,3 +116,15 @@ abbrev pub WriteList : (EventList → Running → Rules → List ℕ → List �
 WriteList Claim =
     Always 2 write-list.Kinds.ps write-list.Kinds.r write-list.Reads.Learnt
     (λ κs a r e. Claim (a .0) (a .1 .0) (a .1 .1 .0) (now (a .1 .1 .1 .0)) (now (a .1 .1 .1 .1 .0)) r (now (e .1 .1 .1 .1 .0)))
+
+-- `rows_length(rows, count, running, rules, bytes)`, and its answer
+abbrev pub RowsLength : (List ℕ → ℕ → Running → Rules → List ℕ → length.ListLength → Type 0) → Type 0
+RowsLength Claim =
+    Always 2 rows-length.Kinds.ps rows-length.Kinds.r rows-length.Reads.Learnt
+    (λ κs a r e. Claim (now (a .0)) (a .1 .0) (a .1 .1 .0) (a .1 .1 .1 .0) (now (a .1 .1 .1 .1 .0)) r)
+
+-- `write_rows(rows, count, running, rules, bytes, out)`, its answer, and what `out` holds at the end
+abbrev pub WriteRows : (List ℕ → ℕ → Running → Rules → List ℕ → List ℕ → WroteList → List ℕ → Type 0) → Type 0
+WriteRows Claim =
+    Always 3 write-rows.Kinds.ps write-rows.Kinds.r write-rows.Reads.Learnt
+    (λ κs a r e. Claim (now (a .0)) (a .1 .0) (a .1 .1 .0) (a .1 .1 .1 .0) (now (a .1 .1 .1 .1 .0)) (now (a .1 .1 .1 .1 .1 .0)) r (now (e .1 .1 .1 .1 .1 .0)))

@@ -12,13 +12,13 @@ use Rattle.smf.specs.Lists.{RecordsLegal, filler, ListAnswer, wrote, refusesAt,
 use Rattle.claims.specs.Table.{among, OneOf, ofLegality, ofWriting, ofListLength, ofListWriting}
 
 -- an event refused by a number, from a running status and over a buffer
-pub record EventRefused (running : ℕ) (out : List ℕ) (w : EventWritten) (n : ℕ) : Type 0 where
+pub record WriteRefused (running : ℕ) (out : List ℕ) (w : EventWritten) (n : ℕ) : Type 0 where
   pub number : OneOf ofWriting n
   pub buffer : w .written .buffer ≡ out
   pub status : w .running ≡ running
 
 -- an event accepted at a place: some bytes from there to the next place, within the buffer, and none before and none beyond
-pub record EventAccepted (at : ℕ) (out : List ℕ) (w : EventWritten) (next : ℕ) : Type 0 where
+pub record WriteAccepted (at : ℕ) (out : List ℕ) (w : EventWritten) (next : ℕ) : Type 0 where
   pub some : at < next
   pub within : next ≤ length out
   pub long : length (w .written .buffer) ≡ length out
@@ -26,8 +26,8 @@ pub record EventAccepted (at : ℕ) (out : List ℕ) (w : EventWritten) (next : 
   pub beyond : drop next (w .written .buffer) ≡ drop next out
 
 abbrev pub EventLeaves : ℕ → ℕ → List ℕ → EventWritten → Answer ℕ → Type 0
-EventLeaves running at out w (gives next) = EventAccepted at out w next
-EventLeaves running at out w (refuses n) = EventRefused running out w n
+EventLeaves running at out w (gives next) = WriteAccepted at out w next
+EventLeaves running at out w (refuses n) = WriteRefused running out w n
 
 module _ (rules : Rules) (bytes : List ℕ) (records : List (Event Span)) (count : ℕ) where
   -- the counted records before an index are legal, and the one there is refused by a number

@@ -10,3 +10,4 @@ pub mod Point1
 pub mod Point2
 pub mod Point3
 pub mod All
+pub mod Entries

@@ -9,35 +9,32 @@ use borrow.Fn.Kind.{PK, RK}
 use borrow.Fn.Kinds.{Out, resT}
 use Rattle.smf.specs.Answer.{Answer}
 use Rattle.smf.specs.Lists.{ListAt, heldAs}
-use Rattle.refusal.specs.Refusal.{numberOf}
-use Rattle.int.specs.Restricted.{triedU2, triedU4, triedU7, triedU14, triedU15, triedU24}
-use Rattle.rules.specs.Rules.{rulesOf}
+use Rattle.base.specs.Refusal.{numberOf}
+use Rattle.base.specs.Restricted.{triedU2, triedU4, triedU7, triedU14, triedU15, triedU24}
+use Rattle.base.specs.Rules.{rulesOf}
 use Rattle.number.specs.Varlen.{triedU28, numberRead, writtenTo}
-use Rattle.payload.specs.Payload.{sliceRead}
-use Rattle.refusal.specs.declared.Refusal.{Refusal}
-use Rattle.int.proofs as int
+use Rattle.number.specs.Payload.{sliceRead}
+use Rattle.base.specs.declared.Refusal.{Refusal}
+use Rattle.base.proofs as base
 use Rattle.number.proofs as number
-use Rattle.payload.proofs as payload
 use Rattle.header.specs.Format.{formatRead}
 use Rattle.header.specs.Fps.{triedFps}
-use Rattle.smpte.specs.Smpte.{triedSmpteTime, encodedSmpteTime, askedSecond, askedPosition}
+use Rattle.header.specs.Smpte.{triedSmpteTime, encodedSmpteTime, askedSecond, askedPosition}
 use Rattle.header.specs.Timing.{timingRead, timingEncoded}
 use Rattle.header.proofs as header
-use Rattle.smpte.proofs as smpte
-use Rattle.bend.specs.Bend.{bendInt, bendF32, bendF64}
-use Rattle.bend.proofs as bend
+use Rattle.midi.specs.Bend.{bendInt, bendF32, bendF64}
+use Rattle.midi.proofs as midi
 use Rattle.meta.specs.Meta.{metaRead}
 use Rattle.event.specs.Event.{eventOf, eventRead}
-use Rattle.legal.specs.Legal.{verdictOf}
-use Rattle.legal.proofs as legal
-use Rattle.measure.specs.Length.{lengthSaid, formLengthSaid}
-use Rattle.measure.proofs as measure
-use Rattle.writing.specs.Write.{wroteEvent}
+use Rattle.track.specs.List.{capacity, recordOf}
 use Rattle.track.specs.Read.{listRead}
-use Rattle.lengths.specs.Lengths.{sizeSaid}
-use Rattle.compose.specs.Written.{wroteList}
-use Rattle.claims.specs.Calls.{Always, ReadU7, WriteVarlen, ReadVarlenSlice, WriteVarlenSlice, MetaMessageRead, TrackEventRead, EventListRead, WriteEvent, ListLength, WriteList}
-use Rattle.claims.specs.Table.{inTable, By, Keeps, ofNumber, ofPayload, ofMeta, ofLegality, ofLength}
+use Rattle.rows.specs.RowLists.{rowRecords}
+use Rattle.write.specs.Size.{lengthSaid}
+use Rattle.write.specs.Wrote.{wroteEvent}
+use Rattle.write.specs.ListAnswers.{sizeSaid, wroteList}
+use Rattle.write.proofs as write
+use Rattle.claims.specs.Calls.{Always, ReadU7, WriteVarlen, ReadVarlenSlice, WriteVarlenSlice, MetaMessageRead, TrackEventRead, EventListRead, WriteEvent, WriteRow, ListLength, WriteList, RowsLength, WriteRows}
+use Rattle.claims.specs.Table.{inTable, By, Keeps, ofNumber, ofPayload, ofMeta, ofLength}
 use Rattle.claims.specs.Stands.{EventOrLeft, ListStands}
 use Rattle.claims.specs.Leaves.{EventLeaves, SizeLeaves, ListLeaves}
 
@@ -48,35 +45,31 @@ Refuses n ps r Told says ns = Always n ps r Told (λ κs a z e. By ns (says κs 
 -- the functions whose refusals give the number alone, and change nothing, since nothing is lent to be changed
 pub record Numbered : Type 0 where
   -- 18: a number above its width
-  pub u2-try-from : Refuses 0 int.u2.«try_from».Kinds.ps int.u2.«try_from».Kinds.r int.u2.«try_from».Reads.Learnt (λ κs. triedU2) (18 ∷ [])
-  pub u4-try-from : Refuses 0 int.u4.«try_from».Kinds.ps int.u4.«try_from».Kinds.r int.u4.«try_from».Reads.Learnt (λ κs. triedU4) (18 ∷ [])
-  pub u7-try-from : Refuses 0 int.u7.«try_from».Kinds.ps int.u7.«try_from».Kinds.r int.u7.«try_from».Reads.Learnt (λ κs. triedU7) (18 ∷ [])
-  pub u14-try-from : Refuses 0 int.u14.«try_from».Kinds.ps int.u14.«try_from».Kinds.r int.u14.«try_from».Reads.Learnt (λ κs. triedU14) (18 ∷ [])
-  pub u15-try-from : Refuses 0 int.u15.«try_from».Kinds.ps int.u15.«try_from».Kinds.r int.u15.«try_from».Reads.Learnt (λ κs. triedU15) (18 ∷ [])
-  pub u24-try-from : Refuses 0 int.u24.«try_from».Kinds.ps int.u24.«try_from».Kinds.r int.u24.«try_from».Reads.Learnt (λ κs. triedU24) (18 ∷ [])
-  pub u28-try-from : Refuses 0 number.varlen.u28.«try_from».Kinds.ps number.varlen.u28.«try_from».Kinds.r number.varlen.u28.«try_from».Reads.Learnt (λ κs. triedU28) (18 ∷ [])
+  pub u2-try-from : Refuses 0 base.u2.«try_from».Kinds.ps base.u2.«try_from».Kinds.r base.u2.«try_from».Reads.Learnt (λ κs. triedU2) (18 ∷ [])
+  pub u4-try-from : Refuses 0 base.u4.«try_from».Kinds.ps base.u4.«try_from».Kinds.r base.u4.«try_from».Reads.Learnt (λ κs. triedU4) (18 ∷ [])
+  pub u7-try-from : Refuses 0 base.u7.«try_from».Kinds.ps base.u7.«try_from».Kinds.r base.u7.«try_from».Reads.Learnt (λ κs. triedU7) (18 ∷ [])
+  pub u14-try-from : Refuses 0 base.u14.«try_from».Kinds.ps base.u14.«try_from».Kinds.r base.u14.«try_from».Reads.Learnt (λ κs. triedU14) (18 ∷ [])
+  pub u15-try-from : Refuses 0 base.u15.«try_from».Kinds.ps base.u15.«try_from».Kinds.r base.u15.«try_from».Reads.Learnt (λ κs. triedU15) (18 ∷ [])
+  pub u24-try-from : Refuses 0 base.u24.«try_from».Kinds.ps base.u24.«try_from».Kinds.r base.u24.«try_from».Reads.Learnt (λ κs. triedU24) (18 ∷ [])
+  pub u28-try-from : Refuses 0 number.u28.«try_from».Kinds.ps number.u28.«try_from».Kinds.r number.u28.«try_from».Reads.Learnt (λ κs. triedU28) (18 ∷ [])
   -- 17: a header field under two bytes; 15: a format above 2; 16: no such rate; 18: ticks above their width
   pub format-read : Refuses 1 header.format.Format.read.Kinds.ps header.format.Format.read.Kinds.r header.format.Format.read.Reads.Learnt (λ κs. formatRead) (15 ∷ 17 ∷ [])
   pub timing-read : Refuses 1 header.timing.Timing.read.Kinds.ps header.timing.Timing.read.Kinds.r header.timing.Timing.read.Reads.Learnt (λ κs. timingRead) (16 ∷ 17 ∷ [])
   pub timing-encode : Refuses 0 header.timing.Timing.encode.Kinds.ps header.timing.Timing.encode.Kinds.r header.timing.Timing.encode.Reads.Learnt (λ κs. timingEncoded) (18 ∷ [])
-  pub fps-from-int : Refuses 0 header.fps.Fps.«from_int».Kinds.ps header.fps.Fps.«from_int».Kinds.r header.fps.Fps.«from_int».Reads.Learnt (λ κs. triedFps) (16 ∷ [])
+  pub fps-from-int : Refuses 0 header.Fps.«from_int».Kinds.ps header.Fps.«from_int».Kinds.r header.Fps.«from_int».Reads.Learnt (λ κs. triedFps) (16 ∷ [])
   -- 13: an SMPTE time outside its ranges; 18 where it is written
-  pub smpte-new : Refuses 0 smpte.SmpteTime.new.Kinds.ps smpte.SmpteTime.new.Kinds.r smpte.SmpteTime.new.Reads.Learnt (λ κs. triedSmpteTime) (13 ∷ [])
-  pub smpte-read : Refuses 0 smpte.SmpteTime.read.Kinds.ps smpte.SmpteTime.read.Kinds.r smpte.SmpteTime.read.Reads.Learnt (λ κs. triedSmpteTime) (13 ∷ [])
-  pub smpte-second-f32 : Refuses 0 smpte.SmpteTime.«second_f32».Kinds.ps smpte.SmpteTime.«second_f32».Kinds.r smpte.SmpteTime.«second_f32».Reads.Learnt (λ κs. askedSecond) (13 ∷ [])
-  pub smpte-position : Refuses 0 smpte.SmpteTime.position.Kinds.ps smpte.SmpteTime.position.Kinds.r smpte.SmpteTime.position.Reads.Learnt (λ κs. askedPosition) (13 ∷ [])
-  pub smpte-encode : Refuses 0 smpte.SmpteTime.encode.Kinds.ps smpte.SmpteTime.encode.Kinds.r smpte.SmpteTime.encode.Reads.Learnt (λ κs. encodedSmpteTime) (18 ∷ [])
+  pub smpte-new : Refuses 0 header.SmpteTime.new.Kinds.ps header.SmpteTime.new.Kinds.r header.SmpteTime.new.Reads.Learnt (λ κs. triedSmpteTime) (13 ∷ [])
+  pub smpte-read : Refuses 0 header.SmpteTime.read.Kinds.ps header.SmpteTime.read.Kinds.r header.SmpteTime.read.Reads.Learnt (λ κs. triedSmpteTime) (13 ∷ [])
+  pub smpte-second-f32 : Refuses 0 header.SmpteTime.«second_f32».Kinds.ps header.SmpteTime.«second_f32».Kinds.r header.SmpteTime.«second_f32».Reads.Learnt (λ κs. askedSecond) (13 ∷ [])
+  pub smpte-position : Refuses 0 header.SmpteTime.position.Kinds.ps header.SmpteTime.position.Kinds.r header.SmpteTime.position.Reads.Learnt (λ κs. askedPosition) (13 ∷ [])
+  pub smpte-encode : Refuses 0 header.SmpteTime.encode.Kinds.ps header.SmpteTime.encode.Kinds.r header.SmpteTime.encode.Reads.Learnt (λ κs. encodedSmpteTime) (18 ∷ [])
   -- 18: a bend above its width
-  pub bend-as-int : Refuses 0 bend.PitchBend.«as_int».Kinds.ps bend.PitchBend.«as_int».Kinds.r bend.PitchBend.«as_int».Reads.Learnt (λ κs. bendInt) (18 ∷ [])
-  pub bend-as-f32 : Refuses 0 bend.PitchBend.«as_f32».Kinds.ps bend.PitchBend.«as_f32».Kinds.r bend.PitchBend.«as_f32».Reads.Learnt (λ κs. bendF32) (18 ∷ [])
-  pub bend-as-f64 : Refuses 0 bend.PitchBend.«as_f64».Kinds.ps bend.PitchBend.«as_f64».Kinds.r bend.PitchBend.«as_f64».Reads.Learnt (λ κs. bendF64) (18 ∷ [])
-  -- an event judged and measured
-  pub form-legality : Refuses 1 legal.«form_legality».Kinds.ps legal.«form_legality».Kinds.r legal.«form_legality».Reads.Learnt (λ κs. verdictOf) ofLegality
-  pub legality : Refuses 1 legal.legality.Kinds.ps legal.legality.Kinds.r legal.legality.Reads.Learnt (λ κs. verdictOf) ofLegality
-  pub bytes-length : Refuses 0 measure.length.«bytes_length».Kinds.ps measure.length.«bytes_length».Kinds.r measure.length.«bytes_length».Reads.Learnt (λ κs. lengthSaid) (18 ∷ [])
-  pub form-measure : Refuses 1 measure.size.«form_measure».Kinds.ps measure.size.«form_measure».Kinds.r measure.size.«form_measure».Reads.Learnt (λ κs. formLengthSaid) ofLegality
-  pub measure-event : Refuses 1 measure.length.measure.Kinds.ps measure.length.measure.Kinds.r measure.length.measure.Reads.Learnt (λ κs. lengthSaid) ofLegality
-  pub event-length : Refuses 1 measure.length.«event_length».Kinds.ps measure.length.«event_length».Kinds.r measure.length.«event_length».Reads.Learnt (λ κs. lengthSaid) ofLength
+  pub bend-as-int : Refuses 0 midi.PitchBend.«as_int».Kinds.ps midi.PitchBend.«as_int».Kinds.r midi.PitchBend.«as_int».Reads.Learnt (λ κs. bendInt) (18 ∷ [])
+  pub bend-as-f32 : Refuses 0 midi.PitchBend.«as_f32».Kinds.ps midi.PitchBend.«as_f32».Kinds.r midi.PitchBend.«as_f32».Reads.Learnt (λ κs. bendF32) (18 ∷ [])
+  pub bend-as-f64 : Refuses 0 midi.PitchBend.«as_f64».Kinds.ps midi.PitchBend.«as_f64».Kinds.r midi.PitchBend.«as_f64».Reads.Learnt (λ κs. bendF64) (18 ∷ [])
+  -- an event measured, and a row's event
+  pub event-length : Refuses 1 write.one.«event_length».Kinds.ps write.one.«event_length».Kinds.r write.one.«event_length».Reads.Learnt (λ κs. lengthSaid) ofLength
+  pub row-length : Refuses 1 write.one.«row_length».Kinds.ps write.one.«row_length».Kinds.r write.one.«row_length».Reads.Learnt (λ κs. lengthSaid) ofLength
 
 pub record Point1 : Type 0 where
   -- every refusal there is has a number of the table
@@ -93,12 +86,17 @@ pub record Point1 : Type 0 where
   pub track-event-read : TrackEventRead (λ raw at running rules r. EventOrLeft (rulesOf rules) raw (running .status) at (eventRead r))
   -- a list, read: it holds a list of the events that stand there; those before a refusal stand, and it gives the place of the refused delta
   pub event-list-read : EventListRead (λ raw at running rules r.
-      (l : ListAt) × (listRead r ≡ heldAs 128 l) × ListStands (rulesOf rules) raw 128 (running .status) at l)
-  -- one event, written: a refusal leaves every byte and the running status; an acceptance changes no byte but its own
+      (l : ListAt) × (listRead r ≡ heldAs capacity l) × ListStands (rulesOf rules) raw capacity (running .status) at l)
+  -- one event, and one row's, written: a refusal leaves every byte and the running status; an acceptance changes no byte but its own
   pub write-event : WriteEvent (λ event running rules bytes out at r end.
-      EventLeaves (running .status) at out (wroteEvent (running .status) r end) (wroteEvent (running .status) r end .written .answer))
-  -- a list, measured and written: a refusal gives its number and index, and leaves every byte and the running status
+      EventLeaves (running .status) at out (wroteEvent r end) (wroteEvent r end .written .answer))
+  pub write-row : WriteRow (λ row running rules bytes out at r end. EventLeaves (running .status) at out (wroteEvent r end) (wroteEvent r end .written .answer))
+  -- a list, of records and of rows, measured and written: a refusal gives its number and index, and leaves every byte and the running status
   pub list-length : ListLength (λ list running rules bytes r.
-      SizeLeaves (rulesOf rules) bytes (map eventOf (list .records)) (list .count) (running .status) (sizeSaid (running .status) r) (sizeSaid (running .status) r .answer))
+      SizeLeaves (rulesOf rules) bytes (map recordOf (list .records)) (list .count) (running .status) (sizeSaid r) (sizeSaid r .answer))
   pub write-list : WriteList (λ list running rules bytes out r end.
-      ListLeaves (rulesOf rules) bytes (map eventOf (list .records)) (list .count) (running .status) out (wroteList (running .status) r end) (wroteList (running .status) r end .answer))
+      ListLeaves (rulesOf rules) bytes (map recordOf (list .records)) (list .count) (running .status) out (wroteList r end) (wroteList r end .answer))
+  pub rows-length : RowsLength (λ rows count running rules bytes r.
+      SizeLeaves (rulesOf rules) bytes (rowRecords count rows) count (running .status) (sizeSaid r) (sizeSaid r .answer))
+  pub write-rows : WriteRows (λ rows count running rules bytes out r end.
+      ListLeaves (rulesOf rules) bytes (rowRecords count rows) count (running .status) out (wroteList r end) (wroteList r end .answer))

@@ -12,15 +12,17 @@ use Rattle.smf.specs.Place.{NumberAt, Span}
 use Rattle.smf.specs.Write.{over}
 use Rattle.smf.specs.Event.{Event, eventAt, legal, encodeEvent, EventWritten, writeEvent, Same}
 use Rattle.smf.specs.Lists.{listAt, filler, heldAs, ended, eventAfter}
-use Rattle.rules.specs.Rules.{rulesOf}
+use Rattle.base.specs.Rules.{rulesOf}
 use Rattle.number.specs.Varlen.{numberRead}
-use Rattle.rules.specs.declared.Rules.{Rules}
-use Rattle.rules.specs.declared.Running.{Running}
+use Rattle.base.specs.declared.Rules.{Rules}
+use Rattle.base.specs.declared.Running.{Running}
 use Rattle.event.specs.Event.{eventOf, eventRead}
+use Rattle.track.specs.List.{capacity}
 use Rattle.track.specs.Read.{listRead}
 use Rattle.track.specs.declared.read.ReadList.{ReadList}
-use Rattle.writing.specs.Write.{wroteEvent}
-use Rattle.claims.specs.Calls.{ReadU7, TrackEventRead, EventListRead, WriteEvent}
+use Rattle.rows.specs.RowEvent.{rowRecord}
+use Rattle.write.specs.Wrote.{wroteEvent}
+use Rattle.claims.specs.Calls.{ReadU7, TrackEventRead, EventListRead, WriteEvent, WriteRow}
 
 -- an event's own bytes at a place of a buffer, and the running status after them
 abbrev pub ownWritten : ℕ → Event (List ℕ) → List ℕ → ℕ → EventWritten
@@ -63,14 +65,17 @@ pub record Point2 : Type 0 where
   -- one event, read at a place
   pub reads : TrackEventRead (λ raw at running rules r. eventRead r ≡ eventAt (rulesOf rules) (running .status) raw at)
   -- a list, read at a place
-  pub reads-lists : EventListRead (λ raw at running rules r. listRead r ≡ heldAs 128 (listAt (rulesOf rules) 128 (running .status) raw at))
+  pub reads-lists : EventListRead (λ raw at running rules r. listRead r ≡ heldAs capacity (listAt (rulesOf rules) capacity (running .status) raw at))
   -- one event, written at a place
   pub writes : WriteEvent (λ event running rules bytes out at r end.
-      wroteEvent (running .status) r end ≡ writeEvent (rulesOf rules) (running .status) bytes (eventOf event) out at)
-  -- a legal one, from a running status and with room: its shortest bytes, no other byte changed, and the running status after it
+      wroteEvent r end ≡ writeEvent (rulesOf rules) (running .status) bytes (eventOf event) out at)
+  -- one row's event, written at a place
+  pub writes-rows : WriteRow (λ row running rules bytes out at r end.
+      wroteEvent r end ≡ writeEvent (rulesOf rules) (running .status) bytes (rowRecord row) out at)
+  -- a legal event, from a running status and with room: its shortest bytes, no other byte changed, and the running status after it
   pub writes-legal : WriteEvent (λ event running rules bytes out at r end. (e : Event (List ℕ))
       → isRunning (running .status) ≡ true → legal (rulesOf rules) bytes (eventOf event) ≡ gives e → at + length (encodeEvent (running .status) e) ≤ length out
-      → wroteEvent (running .status) r end ≡ ownWritten (running .status) e out at)
+      → wroteEvent r end ≡ ownWritten (running .status) e out at)
   -- SMF: bytes that are a number's, whatever follows, are read as the number that they stand for
   pub smf-numbers : ReadU7 (λ raw at rules r. (n rest : List ℕ) → isNumber 4 n ≡ true → drop at raw ≡ n ++ rest
       → numberRead r ≡ gives (record { value = valueFrom 0 n; next = at + length n }))

@@ -10,18 +10,20 @@ use Rattle.smf.specs.Answer.{gives, Rules, strictOf}
 use Rattle.smf.specs.Place.{Span}
 use Rattle.smf.specs.Event.{Event, Same}
 use Rattle.smf.specs.Lists.{readList, ReadsAs, RecordsLegal, listed, ended, ListHeld, wrote, refusesAt, ListWritten, writeList, SameList}
-use Rattle.rules.specs.Rules.{rulesOf}
-use Rattle.rules.specs.declared.Rules as number
-use Rattle.rules.specs.declared.Running.{Running}
+use Rattle.base.specs.Rules.{rulesOf}
+use Rattle.base.specs.declared.Rules as number
+use Rattle.base.specs.declared.Running.{Running}
 use Rattle.event.specs.Event.{eventOf}
-use Rattle.event.specs.declared.track_event.TrackEvent.{TrackEvent}
-use Rattle.writing.specs.Write.{wroteEvent}
-use Rattle.writing.specs.declared.WroteEvent.{WroteEvent}
+use Rattle.event.specs.declared.TrackEvent.{TrackEvent}
+use Rattle.track.specs.List.{capacity, recordOf}
 use Rattle.track.specs.Read.{listRead}
 use Rattle.track.specs.declared.list.EventList.{EventList}
 use Rattle.track.specs.declared.read.ReadList.{ReadList}
-use Rattle.compose.specs.Written.{wroteList}
-use Rattle.claims.specs.Calls.{EventListRead, WriteEvent, WriteList}
+use Rattle.rows.specs.RowLists.{rowRecords}
+use Rattle.write.specs.Wrote.{wroteEvent}
+use Rattle.write.specs.ListAnswers.{wroteList}
+use Rattle.write.specs.declared.answer.WroteEvent.{WroteEvent}
+use Rattle.claims.specs.Calls.{EventListRead, WriteEvent, WriteList, WriteRows}
 
 module _ (rules : Rules) (most running : ℕ) (bytes : List ℕ) (records : List (Event Span)) (count : ℕ) where
   -- document 01: bytes that read strictly as the counted records, over their payload bytes
@@ -46,7 +48,7 @@ module _ (rules : Rules) (most running : ℕ) (bytes : List ℕ) (records : List
       pub beyond : drop n (w .buffer) ≡ drop n buffer
 
     -- what a write says of its answer, the buffer that it leaves and the running status after it
-    pub record Written (w : ListWritten) : Type 0 where
+    pub record ListWriteSays (w : ListWritten) : Type 0 where
       -- it accepts exactly what fits
       pub accepts : ((n : ℕ) × (w .answer ≡ wrote n)) ↔ Fits
       pub accepted : (n : ℕ) → w .answer ≡ wrote n → Accepted w n
@@ -57,7 +59,7 @@ module _ (rules : Rules) (most running : ℕ) (bytes : List ℕ) (records : List
 abbrev pub Writes : Type 0
 Writes =
     (rules : Rules) (most running : ℕ) (bytes : List ℕ) (records : List (Event Span)) (count : ℕ) (buffer : List ℕ)
-    → Written rules most running bytes records count buffer (writeList rules most running bytes records count buffer)
+    → ListWriteSays rules most running bytes records count buffer (writeList rules most running bytes records count buffer)
 
 -- what a list was read as: to the end of so many bytes, to a running status, and the same as other records over their payload bytes
 pub record ReadBack (raw : List ℕ) (r : ListHeld) (n after : ℕ) (bytes : List ℕ) (records : List (Event Span)) (count : ℕ) : Type 0 where
@@ -71,26 +73,29 @@ module _ (list : EventList) (running : Running) (rules : number.Rules) (bytes : 
   abbrev pub ReadAgain : List ℕ → ℕ → Running → number.Rules → ReadList → Type 0
   ReadAgain raw at running′ rules′ r =
       raw ≡ take n (w .buffer) → at ≡ 0 → running′ ≡ running → rulesOf rules′ ≡ strictOf (rulesOf rules)
-      → ReadBack raw (listRead r) n (w .running) bytes (map eventOf (list .records)) (list .count)
+      → ReadBack raw (listRead r) n (w .running) bytes (map recordOf (list .records)) (list .count)
 
 -- an event whose bytes were written at the front of a buffer, and another whose bytes the first begin with, by the same rules, strict or not
 module _ (e : TrackEvent) (running : Running) (rules : number.Rules) (bytes own : List ℕ) where
   abbrev pub NeverBegins : TrackEvent → Running → number.Rules → List ℕ → List ℕ → ℕ → WroteEvent → List ℕ → Type 0
   NeverBegins e′ running′ rules′ bytes′ out at r end =
-      (n : ℕ) (more : List ℕ) → at ≡ 0 → running′ ≡ running → strictOf (rulesOf rules′) ≡ strictOf (rulesOf rules) → wroteEvent (running′ .status) r end .written .answer ≡ gives n
+      (n : ℕ) (more : List ℕ) → at ≡ 0 → running′ ≡ running → strictOf (rulesOf rules′) ≡ strictOf (rulesOf rules) → wroteEvent r end .written .answer ≡ gives n
       → own ≡ take n end ++ more → Same bytes (eventOf e) bytes′ (eventOf e′)
 
 pub record Point3 : Type 0 where
-  -- `write_list`, of whatever its promise permits: a list of at most 128 events
+  -- `write_list`, of whatever its promise permits: a list of at most as many events as may be
   pub writes : WriteList (λ list running rules bytes out r end.
-      Written (rulesOf rules) 128 (running .status) bytes (map eventOf (list .records)) (list .count) out (wroteList (running .status) r end))
-  -- what it writes, `EventList::read` reads strictly as the same list, all bytes used, and ends in the same running status; the array of
-  -- every list has 128 records
+      ListWriteSays (rulesOf rules) capacity (running .status) bytes (map recordOf (list .records)) (list .count) out (wroteList r end))
+  -- `write_rows` in the same way, of the records that its rows are
+  pub writes-rows : WriteRows (λ rows count running rules bytes out r end.
+      ListWriteSays (rulesOf rules) capacity (running .status) bytes (rowRecords count rows) count out (wroteList r end))
+  -- what `write_list` writes, `EventList::read` reads strictly as the same list, all bytes used, and ends in the same running status; the array of
+  -- every list has capacity records
   pub reads-back : WriteList (λ list running rules bytes out r end.
-      (n : ℕ) → wroteList (running .status) r end .answer ≡ wrote n → length (list .records) ≡ 128
-      → EventListRead (ReadAgain list running rules bytes (wroteList (running .status) r end) n))
+      (n : ℕ) → wroteList r end .answer ≡ wrote n → length (list .records) ≡ capacity
+      → EventListRead (ReadAgain list running rules bytes (wroteList r end) n))
   -- `write_event`, twice from one running status and by the same rules, each time at the front of a buffer: where the bytes of one event
   -- begin with those of the other, the events are the same, whatever bytes their payloads are in
   pub prefix-free : WriteEvent (λ e running rules bytes out at r end.
-      (n : ℕ) → at ≡ 0 → wroteEvent (running .status) r end .written .answer ≡ gives n
+      (n : ℕ) → at ≡ 0 → wroteEvent r end .written .answer ≡ gives n
       → WriteEvent (NeverBegins e running rules bytes (take n end)))

@@ -10,8 +10,7 @@ use Rattle.smf.specs.Answer.{pick, Answer, gives, refuses, Rules}
 use Rattle.smf.specs.Running.{isRunning}
 use Rattle.smf.specs.Number.{Numeral, readNumber}
 use Rattle.smf.specs.Place.{Span}
-use Rattle.smf.specs.Wire.{Reading, reads, refused}
-use Rattle.smf.specs.Event.{Event, EventAt, eventAt}
+use Rattle.smf.specs.Event.{Event, EventAt, ReadAt, readsAt, refusedAt, eventAt}
 use Rattle.smf.specs.Lists.{Stop, ended, full, stopped, ListAt}
 use Rattle.claims.specs.Table.{among, OneOf, ofEvent}
 
@@ -22,22 +21,22 @@ statusOf running (b ∷ s) = pick (ltb b 0x80) running b
 
 -- document 01: the running status that a refused read leaves, by what its delta reads as: as before for 2, 3 in a delta and for 1, 4..7;
 -- the status for 8, 9; none for 2, 3 in a length and 10..14
-abbrev pub leaves : ℕ → Answer Numeral → ℕ → ℕ
-leaves running (refuses m) n = running
-leaves running (gives delta) n =
+abbrev pub statusLeft : ℕ → Answer Numeral → ℕ → ℕ
+statusLeft running (refuses m) n = running
+statusLeft running (gives delta) n =
     pick (among (1 ∷ 4 ∷ 5 ∷ 6 ∷ 7 ∷ []) n) running (pick (among (8 ∷ 9 ∷ []) n) (statusOf running (delta .rest)) 0)
 
 module _ (rules : Rules) (bytes : List ℕ) where
   -- an event of some of the bytes there; or a refusal by one of the numbers, which leaves that running status, and no byte is used
-  abbrev pub EventOrLeft : ℕ → ℕ → Reading EventAt → Type 0
-  EventOrLeft running at (reads a) = (0 < a .used) × (at + a .used ≤ length bytes)
-  EventOrLeft running at (refused n after) = OneOf (ofEvent (rules .strict)) n × (after ≡ leaves running (readNumber rules (drop at bytes)) n)
+  abbrev pub EventOrLeft : ℕ → ℕ → ReadAt → Type 0
+  EventOrLeft running at (readsAt a) = (0 < a .used) × (at + a .used ≤ length bytes)
+  EventOrLeft running at (refusedAt n used after) = OneOf (ofEvent (rules .strict)) n × (used ≡ 0) × (after ≡ statusLeft running (readNumber rules (drop at bytes)) n)
 
   -- records from a place and a running status on, to the place and the running status behind the last: each is the event that stands where
   -- the one before it ended, read from the running status that it left
   pub data Stand : (running place : ℕ) → List (Event Span) → (after end : ℕ) → Type 0 where
     none : {running place : ℕ} → Stand running place [] running place
-    next : {running place after end : ℕ} {es : List (Event Span)} (a : EventAt) → eventAt rules running bytes place ≡ reads a
+    next : {running place after end : ℕ} {es : List (Event Span)} (a : EventAt) → eventAt rules running bytes place ≡ readsAt a
         → Stand (a .running) (place + a .used) es after end → Stand running place (a .event ∷ es) after end
 
   -- document 01: reading stops at the end, or full (as many read as a list holds, and bytes left), or at an event that is refused there, by
@@ -45,7 +44,7 @@ module _ (rules : Rules) (bytes : List ℕ) where
   abbrev pub Why : ℕ → ListAt → Stop → Type 0
   Why most l ended = length bytes ≤ l .place
   Why most l full = (length (l .events) ≡ most) × (l .place < length bytes)
-  Why most l (stopped n) = OneOf (ofEvent (rules .strict)) n × ((after : ℕ) × (eventAt rules (l .running) bytes (l .place) ≡ refused n after))
+  Why most l (stopped n) = OneOf (ofEvent (rules .strict)) n × ((after : ℕ) × (eventAt rules (l .running) bytes (l .place) ≡ refusedAt n 0 after))
 
   -- a list of at most so many events from a place on
   pub record ListStands (most running at : ℕ) (l : ListAt) : Type 0 where

@@ -58,7 +58,7 @@ ofLength = 1 ∷ ofLegality
 abbrev pub ofWriting : List ℕ
 ofWriting = 1 ∷ 20 ∷ ofLegality
 
--- a list that is measured, and one that is written: 21 a count above 128
+-- a list that is measured, and one that is written: 21 a count above what a list holds
 abbrev pub ofListLength : List ℕ
 ofListLength = 1 ∷ 21 ∷ ofLegality
 

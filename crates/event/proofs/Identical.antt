@@ -2,20 +2,19 @@
 use mathlib.Core.Path.{_≡_, refl, ap, ap₂}
 use Prim.Native.Nat.{ℕ}
 use Rattle.smf.specs.Place.{Span}
-use Rattle.smf.specs.Wire as wire
 use Rattle.smf.specs.Kind as kind
 use Rattle.smf.specs.Event as smf
 use Rattle.smf.proofs.Answer.{injective}
-use Rattle.refusal.specs.declared.Refusal.{Refusal}
-use Rattle.refusal.proofs.RefusalNumbers.{refusalOf, number-back}
+use Rattle.base.specs.declared.Refusal.{Refusal}
+use Rattle.base.proofs.RefusalNumbers.{refusalOf, number-back}
 use Rattle.midi.proofs.Identical.{backMessage, sameMessage}
 use Rattle.meta.proofs.Identical.{backRange, backMeta, sameMeta}
 use Rattle.midi.specs.declared.MidiMessage.{MidiMessage}
 use Rattle.meta.specs.declared.MetaMessage.{MetaMessage}
 use Rattle.event.specs.Event.{kindOf, eventOf, eventRead}
-use Rattle.event.specs.declared.track_event.TrackEventKind.{TrackEventKind}
-use Rattle.event.specs.declared.track_event.TrackEventKind.the-variants as track
-use Rattle.event.specs.declared.track_event.TrackEvent.{TrackEvent}
+use Rattle.event.specs.declared.TrackEventKind.{TrackEventKind}
+use Rattle.event.specs.declared.TrackEventKind.the-variants as track
+use Rattle.event.specs.declared.TrackEvent.{TrackEvent}
 use Rattle.event.specs.declared.read.ReadEvent.{ReadEvent}
 use Rattle.event.specs.declared.read.ReadEvent.the-variants as read
 
@@ -42,14 +41,14 @@ sameEvent e = ap (λ (k : TrackEventKind). record { delta = e .delta; kind = k }
 pub eventOf-injective : {x y : TrackEvent} → eventOf x ≡ eventOf y → x ≡ y
 eventOf-injective = injective eventOf backEvent sameEvent
 
-backRead : wire.Reading smf.EventAt → ReadEvent
-backRead (wire.reads e) = read.Event (record { event = backEvent (e .event); used = e .used; running = record { status = e .running } })
-backRead (wire.refused n running) = read.Refused (record { refusal = refusalOf n; running = record { status = running } })
+backRead : smf.ReadAt → ReadEvent
+backRead (smf.readsAt e) = read.Event (record { event = backEvent (e .event); used = e .used; running = record { status = e .running } })
+backRead (smf.refusedAt n used running) = read.Refused (record { refusal = refusalOf n; used = used; running = record { status = running } })
 
 sameRead : (r : ReadEvent) → backRead (eventRead r) ≡ r
 unfolding backRead
 sameRead (read.Event e) = ap (λ (x : TrackEvent). read.Event (record { event = x; used = e .used; running = e .running })) (sameEvent (e .event))
-sameRead (read.Refused n) = ap (λ (x : Refusal). read.Refused (record { refusal = x; running = n .running })) (number-back (n .refusal))
+sameRead (read.Refused n) = ap (λ (x : Refusal). read.Refused (record { refusal = x; used = n .used; running = n .running })) (number-back (n .refusal))
 
 pub eventRead-injective : {x y : ReadEvent} → eventRead x ≡ eventRead y → x ≡ y
 eventRead-injective = injective eventRead backRead sameRead

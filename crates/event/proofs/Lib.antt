@@ -1,1 +1,2 @@
 pub mod Identical
+pub mod IdenticalRunning

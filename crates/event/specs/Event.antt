@@ -1,15 +1,14 @@
 -- A track event as the definitions take it, and what reading one answers.
 use Prim.Native.Nat.{ℕ}
 use Rattle.smf.specs.Place.{Span}
-use Rattle.smf.specs.Wire.{Reading, reads, refused}
 use Rattle.smf.specs.Kind as kind
 use Rattle.smf.specs.Event as smf
-use Rattle.refusal.specs.Refusal.{numberOf}
+use Rattle.base.specs.Refusal.{numberOf}
 use Rattle.midi.specs.Midi.{messageOf}
 use Rattle.meta.specs.Meta.{metaOf, spanOf}
-use Rattle.event.specs.declared.track_event.TrackEventKind.{TrackEventKind}
-use Rattle.event.specs.declared.track_event.TrackEventKind.the-variants as track
-use Rattle.event.specs.declared.track_event.TrackEvent.{TrackEvent}
+use Rattle.event.specs.declared.TrackEventKind.{TrackEventKind}
+use Rattle.event.specs.declared.TrackEventKind.the-variants as track
+use Rattle.event.specs.declared.TrackEvent.{TrackEvent}
 use Rattle.event.specs.declared.read.ReadEvent.{ReadEvent}
 use Rattle.event.specs.declared.read.ReadEvent.the-variants as read
 
@@ -23,9 +22,9 @@ abbrev pub eventOf : TrackEvent → smf.Event Span
 eventOf e = smf.event (e .delta .0) (kindOf (e .kind))
 
 -- an event, the bytes used, and the running status after it
-abbrev pub eventUsed : smf.Event Span → ℕ → ℕ → Reading smf.EventAt
-eventUsed e used running = reads (record { event = e; used = used; running = running })
+abbrev pub eventUsed : smf.Event Span → ℕ → ℕ → smf.ReadAt
+eventUsed e used running = smf.readsAt (record { event = e; used = used; running = running })
 
-abbrev pub eventRead : ReadEvent → Reading smf.EventAt
+abbrev pub eventRead : ReadEvent → smf.ReadAt
 eventRead (read.Event e) = eventUsed (eventOf (e .event)) (e .used) (e .running .status)
-eventRead (read.Refused n) = refused (numberOf (n .refusal)) (n .running .status)
+eventRead (read.Refused n) = smf.refusedAt (numberOf (n .refusal)) (n .used) (n .running .status)

@@ -1,2 +1,3 @@
--- What the values and the answers of this crate say, in the paper's terms.
+-- Events and what their reader answers, in the paper's terms.
 pub mod Event
+pub mod Lent

@@ -5,39 +5,41 @@ ghost use Prim.Native.Nat.{_-_, _≤_, _<_};
 ghost use lib.ListN.{length, drop};
 ghost use Rattle.smf.specs.Place.{Sited};
 ghost use Rattle.smf.specs.Running.{isRunning};
-ghost use Rattle.smf.specs.Wire as wire;
 ghost use Rattle.smf.specs.Wire.{withPayload, system, readChannel, readMeta, readStatus, readBody};
 ghost use Rattle.smf.specs.Payload.{readPayload};
 ghost use Rattle.smf.specs.Event as smf;
-ghost use Rattle.rules.specs.Rules.{rulesOf};
-ghost use Rattle.refusal.specs.Refusal.{numberOf};
+ghost use Rattle.base.specs.Rules.{rulesOf};
+ghost use Rattle.base.specs.Refusal.{numberOf};
 ghost use Rattle.event.specs.Event.{kindOf, eventUsed, eventRead};
-use crate::track_event::TrackEvent;
-use crate::track_event::TrackEventKind;
-use int::u4;
-use int::u7;
+use crate::TrackEvent;
+use crate::TrackEventKind;
+use crate::message::read;
+use base::Refusal;
+use base::Rules;
+use base::Running;
+use base::u4;
+use base::u7;
 use meta::MetaMessage;
 use meta::ReadMeta;
 use midi::MidiMessage;
+use number::payload::ReadSlice;
+use number::payload::read_varlen_slice;
+use number::u28;
 use number::varlen::ReadNumber;
-use number::varlen::u28;
-use payload::ReadSlice;
-use payload::read_varlen_slice;
-use refusal::Refusal;
-use rules::Rules;
-use rules::Running;
 
-// An event that was read, the bytes used, and the running status after it.
+// An event that was read, the bytes used, and the running status after it. What both answers have stands first in
+// each, and so at one place in memory: a compiler then keeps it in registers.
 pub struct EventAt {
-    pub event: TrackEvent,
     pub used: usize,
     pub running: Running,
+    pub event: TrackEvent,
 }
 
-// A refusal, and the running status that it leaves; no bytes are used.
+// A refusal, the bytes used, which are none, and the running status that it leaves.
 pub struct EventRefused {
-    pub refusal: Refusal,
+    pub used: usize,
     pub running: Running,
+    pub refusal: Refusal,
 }
 
 pub enum ReadEvent {
@@ -52,11 +54,12 @@ struct Begun {
 }
 
 fn refused(refusal: Refusal, status: u8) -> ReadEvent
-    ensures { λ r. ⌜ eventRead r ≡ wire.refused (numberOf refusal) status ⌝ }
+    ensures { λ r. ⌜ eventRead r ≡ smf.refusedAt (numberOf refusal) 0 status ⌝ }
 {
     ReadEvent::Refused(EventRefused {
-        refusal,
+        used: 0,
         running: Running { status },
+        refusal,
     })
 }
 
@@ -67,9 +70,9 @@ fn event(begun: Begun, kind: TrackEventKind, next: usize, status: u8) -> ReadEve
 {
     let delta = begun.delta;
     ReadEvent::Event(EventAt {
-        event: TrackEvent { delta, kind },
         used: next - begun.start,
         running: Running { status },
+        event: TrackEvent { delta, kind },
     })
 }
 
@@ -98,7 +101,7 @@ fn channel(raw: &[u8], at: usize, begun: Begun, status: u8, rules: Rules) -> Rea
         return refused(Refusal::ChannelDataTopBit, status);
     }
     if len == 1 {
-        let message = MidiMessage::read(status, u7(first), u7(0));
+        let message = crate::message::read(status, u7(first), u7(0));
         return event(
             begun,
             TrackEventKind::Midi { channel, message },
@@ -110,7 +113,7 @@ fn channel(raw: &[u8], at: usize, begun: Begun, status: u8, rules: Rules) -> Rea
     if 0x80 <= second {
         return refused(Refusal::ChannelDataTopBit, status);
     }
-    let message = MidiMessage::read(status, u7(first), u7(second));
+    let message = crate::message::read(status, u7(first), u7(second));
     event(
         begun,
         TrackEventKind::Midi { channel, message },
@@ -141,11 +144,12 @@ fn payload(raw: &[u8], at: usize, begun: Begun, status: u8, rules: Rules) -> Rea
     match read_varlen_slice(raw, at, rules) {
         ReadSlice::Refused(refusal) => refused(refusal, 0),
         ReadSlice::Slice(load) => {
-            let next = load.start + load.length;
+            let range = load.range;
+            let next = range.start + range.length;
             if status == 0xF0 {
-                return event(begun, TrackEventKind::SysEx(load), next, 0);
+                return event(begun, TrackEventKind::SysEx(range), next, 0);
             }
-            event(begun, TrackEventKind::Escape(load), next, 0)
+            event(begun, TrackEventKind::Escape(range), next, 0)
         }
     }
 }

@@ -7,14 +7,14 @@ use lib.ListN.{getD}
 use Rattle.smf.specs.Answer.{pick, Answer}
 use Rattle.smf.specs.Header as smf
 use Rattle.smf.proofs.Answer.{injective, answered}
-use Rattle.refusal.proofs.RefusalNumbers.{refusalOf, number-back}
+use Rattle.base.proofs.RefusalNumbers.{refusalOf, number-back}
 use Rattle.header.specs.Fps.{rateOf, triedFps}
 use Rattle.header.specs.Format.{formatOf, formatRead}
 use Rattle.header.specs.Timing.{timingOf, timingRead, timingEncoded}
-use Rattle.header.specs.declared.fps.Fps.{Fps}
-use Rattle.header.specs.declared.fps.Fps.the-variants as fps
-use Rattle.header.specs.declared.fps.TriedFps.{TriedFps}
-use Rattle.header.specs.declared.fps.TriedFps.the-variants as triedfps
+use Rattle.header.specs.declared.Fps.{Fps}
+use Rattle.header.specs.declared.Fps.the-variants as fps
+use Rattle.header.specs.declared.rate.TriedFps.{TriedFps}
+use Rattle.header.specs.declared.rate.TriedFps.the-variants as triedfps
 use Rattle.header.specs.declared.format.Format.{Format}
 use Rattle.header.specs.declared.format.Format.the-variants as format
 use Rattle.header.specs.declared.format.ReadFormat.{ReadFormat}

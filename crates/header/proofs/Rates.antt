@@ -5,8 +5,8 @@ use Prim.Native.Nat.{_<_, _≤_}
 use native.Mathlib.Omega.{arith}
 use Rattle.smf.specs.Smpte.{isRate}
 use Rattle.header.specs.Fps.{rateOf}
-use Rattle.header.specs.declared.fps.Fps.{Fps}
-use Rattle.header.specs.declared.fps.Fps.the-variants as fps
+use Rattle.header.specs.declared.Fps.{Fps}
+use Rattle.header.specs.declared.Fps.the-variants as fps
 
 pub record Rated (f : Fps) : Type 0 where
   pub is : isRate (rateOf f) ≡ true

@@ -1,7 +1,7 @@
 -- A format as its number, and what `read` answers.
 use Prim.Native.Nat.{ℕ}
 use Rattle.smf.specs.Answer.{Answer, gives, refuses}
-use Rattle.refusal.specs.Refusal.{numberOf}
+use Rattle.base.specs.Refusal.{numberOf}
 use Rattle.header.specs.declared.format.Format.{Format}
 use Rattle.header.specs.declared.format.Format.the-variants as format
 use Rattle.header.specs.declared.format.ReadFormat.{ReadFormat}

@@ -1,11 +1,11 @@
 -- A rate as its number, and what `from_int` answers.
 use Prim.Native.Nat.{ℕ}
 use Rattle.smf.specs.Answer.{Answer, gives, refuses}
-use Rattle.refusal.specs.Refusal.{numberOf}
-use Rattle.header.specs.declared.fps.Fps.{Fps}
-use Rattle.header.specs.declared.fps.Fps.the-variants as fps
-use Rattle.header.specs.declared.fps.TriedFps.{TriedFps}
-use Rattle.header.specs.declared.fps.TriedFps.the-variants as tried
+use Rattle.base.specs.Refusal.{numberOf}
+use Rattle.header.specs.declared.Fps.{Fps}
+use Rattle.header.specs.declared.Fps.the-variants as fps
+use Rattle.header.specs.declared.rate.TriedFps.{TriedFps}
+use Rattle.header.specs.declared.rate.TriedFps.the-variants as tried
 
 abbrev pub rateOf : Fps → ℕ
 rateOf fps.Fps24 = 24

@@ -1,4 +1,5 @@
--- What the values and the answers of this crate say, in the paper's terms.
+-- The types of this crate and its answers, in the paper's numbers.
 pub mod Fps
 pub mod Format
 pub mod Timing
+pub mod Smpte

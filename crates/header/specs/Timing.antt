@@ -3,7 +3,7 @@ use mathlib.Core.List.{List, [], _∷_}
 use Prim.Native.Nat.{ℕ}
 use Rattle.smf.specs.Answer.{Answer, gives, refuses}
 use Rattle.smf.specs.Header as smf
-use Rattle.refusal.specs.Refusal.{numberOf}
+use Rattle.base.specs.Refusal.{numberOf}
 use Rattle.header.specs.Fps.{rateOf}
 use Rattle.header.specs.declared.timing.Timing.{Timing}
 use Rattle.header.specs.declared.timing.Timing.the-variants as timing

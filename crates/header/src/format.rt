@@ -3,7 +3,7 @@ ghost use mathlib.Core.Path.{_≡_};
 ghost use Rattle.smf.specs.Header.{readFormat, formatBytes};
 ghost use Rattle.header.specs.Format.{formatOf, formatRead};
 use crate::field;
-use refusal::Refusal;
+use base::Refusal;
 
 pub enum Format {
     // one track

@@ -2,12 +2,12 @@
 ghost use mathlib.Core.Path.{_≡_};
 ghost use Rattle.smf.specs.Header.{readTiming, encodeTiming};
 ghost use Rattle.header.specs.Timing.{timingOf, timingRead, timingEncoded};
+use crate::Fps;
 use crate::field;
-use crate::fps::Fps;
-use crate::fps::TriedFps;
+use crate::rate::TriedFps;
 use crate::signed;
-use int::u15;
-use refusal::Refusal;
+use base::Refusal;
+use base::u15;
 
 pub enum Timing {
     // ticks in a beat

@@ -3,13 +3,13 @@ use crate::text::byte;
 use crate::text::less;
 use crate::text::number;
 use crate::text::word;
-use event::track_event::TrackEventKind;
+use base::Range;
+use event::TrackEventKind;
+use header::SmpteTime;
 use header::signed::to_byte;
 use meta::MetaMessage;
 use meta::OptionU16;
 use midi::MidiMessage;
-use rules::Range;
-use smpte::SmpteTime;
 
 // A payload, by its place in the input.
 fn load(range: Range) {

@@ -7,13 +7,13 @@ use crate::text::byte;
 use crate::text::line_end;
 use crate::text::number;
 use crate::text::word;
-use event::track_event::TrackEvent;
-use rules::Rules;
-use rules::Running;
+use base::Rules;
+use base::Running;
+use track::cursor::Stop;
 use track::list::CAPACITY;
 use track::list::EventList;
+use track::list::Record;
 use track::read::ReadList;
-use track::read::Stop;
 
 // The most bytes that are listed.
 const LONGEST: usize = 65536;
@@ -39,7 +39,8 @@ fn summary(read: ReadList) {
     line_end();
 }
 
-fn line(index: usize, event: TrackEvent) {
+fn line(index: usize, record: Record) {
+    let event = record.event;
     let what = event.kind;
     io::print_decimal(1, index as u64);
     number(event.delta.0 as u64);

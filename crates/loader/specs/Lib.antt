@@ -1,2 +1,4 @@
--- What the exported entries answer, in plain numbers.
+-- What the entries answer, and what they leave in what they are lent.
 pub mod Entry
+pub mod Fields
+pub mod Smpte

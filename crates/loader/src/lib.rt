@@ -1,20 +1,15 @@
 // The exported entries, which C and Rust link: numbers, byte slices and values lent for what is found.
 // Each answers 0 where it accepts, else the refusal's number in document 01's table. A refusal changes nothing that was lent but what its entry says.
-// One that refuses nothing answers its value itself. Those for numbers and payloads stand here, the others in crates of their own.
+// One that refuses nothing answers its value itself. Those for events and lists stand in crates of their own.
+pub mod bends;
+pub mod fields;
+pub mod numbers;
+pub mod smpte;
+
 ghost use mathlib.Core.Path.{_≡_};
-ghost use Prim.Native.Nat.{ℕ};
-ghost use lib.ListN.{length};
-ghost use Rattle.smf.specs.Number.{encodeNumber};
-ghost use Rattle.smf.specs.Place.{NumberAt, Span, numberAt, payloadAt};
-ghost use Rattle.smf.specs.Write.{write, numberBytes, payloadBytes};
-ghost use Rattle.rules.specs.Rules.{rulesOf};
-ghost use Rattle.loader.specs.Entry.{fromBits, answered, leaves};
-use number::varlen::ReadNumber;
-use number::varlen::Written;
-use number::varlen::u28;
-use payload::ReadSlice;
-use rules::Range;
-use rules::Rules;
+ghost use Rattle.base.specs.Rules.{rulesOf};
+ghost use Rattle.loader.specs.Entry.{fromBits};
+use base::Rules;
 
 // The rules that a set of bits says: bit 0 strict. Bits that mean nothing yet are not looked at.
 pub fn rules(bits: u8) -> Rules
@@ -22,98 +17,5 @@ pub fn rules(bits: u8) -> Rules
 {
     Rules {
         strict: bits % 2 == 1,
-    }
-}
-
-// The number at a place: its value, and the place after it.
-#[no_mangle]
-pub extern "C" fn apk_number_read(
-    bytes: &[u8],
-    at: usize,
-    bits: u8,
-    value: &mut u32,
-    next: &mut usize,
-) -> u8
-    ensures answer { λ r. ⌜ r ≡ answered (numberAt (fromBits bits) (now (bytes .entry)) at) ⌝ }
-    ensures value { λ r. ⌜ now (value .exit) ≡ leaves (λ (n : NumberAt). n .value) (numberAt (fromBits bits) (now (bytes .entry)) at) (now (value .entry)) ⌝ }
-    ensures next { λ r. ⌜ now (next .exit) ≡ leaves (λ (n : NumberAt). n .next) (numberAt (fromBits bits) (now (bytes .entry)) at) (now (next .entry)) ⌝ }
-{
-    match u28::read_u7(bytes, at, rules(bits)) {
-        ReadNumber::Refused(refusal) => refusal.number(),
-        ReadNumber::Number(found) => {
-            *value = found.value.0;
-            *next = found.next;
-            0
-        }
-    }
-}
-
-// How many bytes the shortest form of a number has.
-#[no_mangle]
-pub extern "C" fn apk_number_length(value: u32) -> usize
-    ensures { λ r. ⌜ r ≡ length (encodeNumber value) ⌝ }
-{
-    u28(value).varlen_length()
-}
-
-// The shortest form of a number, put at a place of a lent buffer, and the place after it.
-#[no_mangle]
-pub extern "C" fn apk_number_write(value: u32, out: &mut [u8], at: usize, next: &mut usize) -> u8
-    ensures answer { λ r. ⌜ r ≡ answered (write (numberBytes value) (now (out .entry)) at .answer) ⌝ }
-    ensures buffer { λ r. ⌜ now (out .exit) ≡ write (numberBytes value) (now (out .entry)) at .buffer ⌝ }
-    ensures next { λ r. ⌜ now (next .exit) ≡ leaves (λ (n : ℕ). n) (write (numberBytes value) (now (out .entry)) at .answer) (now (next .entry)) ⌝ }
-{
-    match u28(value).write_varlen(out, at) {
-        Written::Refused(refusal) => refusal.number(),
-        Written::Next(end) => {
-            *next = end;
-            0
-        }
-    }
-}
-
-// The payload at a place: its start and its length. The place after it is their sum.
-#[no_mangle]
-pub extern "C" fn apk_payload_read(
-    bytes: &[u8],
-    at: usize,
-    bits: u8,
-    start: &mut usize,
-    length: &mut usize,
-) -> u8
-    ensures answer { λ r. ⌜ r ≡ answered (payloadAt (fromBits bits) (now (bytes .entry)) at) ⌝ }
-    ensures start { λ r. ⌜ now (start .exit) ≡ leaves (λ (n : Span). n .start) (payloadAt (fromBits bits) (now (bytes .entry)) at) (now (start .entry)) ⌝ }
-    ensures length { λ r. ⌜ now (length .exit) ≡ leaves (λ (n : Span). n .length) (payloadAt (fromBits bits) (now (bytes .entry)) at) (now (length .entry)) ⌝ }
-{
-    match payload::read_varlen_slice(bytes, at, rules(bits)) {
-        ReadSlice::Refused(refusal) => refusal.number(),
-        ReadSlice::Slice(found) => {
-            *start = found.start;
-            *length = found.length;
-            0
-        }
-    }
-}
-
-// The payload that a range of the bytes lent is, put at a place of a lent buffer, and the place after it.
-#[no_mangle]
-pub extern "C" fn apk_payload_write(
-    payload: &[u8],
-    start: usize,
-    length: usize,
-    out: &mut [u8],
-    at: usize,
-    next: &mut usize,
-) -> u8
-    ensures answer { λ r. ⌜ r ≡ answered (write (payloadBytes (now (payload .entry)) start length) (now (out .entry)) at .answer) ⌝ }
-    ensures buffer { λ r. ⌜ now (out .exit) ≡ write (payloadBytes (now (payload .entry)) start length) (now (out .entry)) at .buffer ⌝ }
-    ensures next { λ r. ⌜ now (next .exit) ≡ leaves (λ (n : ℕ). n) (write (payloadBytes (now (payload .entry)) start length) (now (out .entry)) at .answer) (now (next .entry)) ⌝ }
-{
-    match payload::write_varlen_slice(payload, Range { start, length }, out, at) {
-        Written::Refused(refusal) => refusal.number(),
-        Written::Next(end) => {
-            *next = end;
-            0
-        }
     }
 }

@@ -7,9 +7,9 @@ use Rattle.smf.specs.Place.{Span}
 use Rattle.smf.specs.Kind as kind
 use Rattle.smf.specs.MetaAt.{MetaAt}
 use Rattle.smf.proofs.Answer.{injective, answered}
-use Rattle.rules.specs.declared.Range.{Range}
-use Rattle.refusal.proofs.RefusalNumbers.{refusalOf, number-back}
-use Rattle.smpte.proofs.Identical.{backSmpteTime, sameSmpteTime}
+use Rattle.base.specs.declared.Range.{Range}
+use Rattle.base.proofs.RefusalNumbers.{refusalOf, number-back}
+use Rattle.header.proofs.IdenticalTimes.{backSmpteTime, sameSmpteTime}
 use Rattle.meta.specs.Meta.{spanOf, metaOf, metaRead}
 use Rattle.meta.specs.declared.OptionU16.the-variants as option
 use Rattle.meta.specs.declared.MetaMessage.{MetaMessage}

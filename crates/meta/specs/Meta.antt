@@ -4,9 +4,9 @@ use Rattle.smf.specs.Answer.{Answer, gives, refuses}
 use Rattle.smf.specs.Place.{Span}
 use Rattle.smf.specs.Kind as kind
 use Rattle.smf.specs.MetaAt.{MetaAt}
-use Rattle.refusal.specs.Refusal.{numberOf}
-use Rattle.rules.specs.declared.Range.{Range}
-use Rattle.smpte.specs.Smpte.{smpteTimeOf}
+use Rattle.base.specs.Refusal.{numberOf}
+use Rattle.base.specs.declared.Range.{Range}
+use Rattle.header.specs.Smpte.{smpteTimeOf}
 use Rattle.meta.specs.declared.OptionU16.{OptionU16}
 use Rattle.meta.specs.declared.OptionU16.the-variants as option
 use Rattle.meta.specs.declared.MetaMessage.{MetaMessage}
@@ -43,9 +43,9 @@ metaOf (meta.SequencerSpecific r) = kind.sequencerSpecific (spanOf r)
 metaOf (meta.Unknown t r) = kind.unknown t (spanOf r)
 
 -- a meta message and the place after it
-abbrev pub metaPlaced : MetaMessage → ℕ → MetaAt
-metaPlaced m next = record { message = metaOf m; next = next }
+abbrev pub metaBefore : MetaMessage → ℕ → MetaAt
+metaBefore m next = record { message = metaOf m; next = next }
 
 abbrev pub metaRead : ReadMeta → Answer MetaAt
-metaRead (read.Message m) = gives (metaPlaced (m .message) (m .next))
+metaRead (read.Message m) = gives (metaBefore (m .message) (m .next))
 metaRead (read.Refused n) = refuses (numberOf n)

@@ -8,21 +8,21 @@ ghost use Rattle.smf.specs.Kind.{trackNumberOf, midiChannel, midiPort};
 ghost use Rattle.smf.specs.Kind as kind;
 ghost use Rattle.smf.specs.Event.{mapMeta, bytesOf};
 ghost use Rattle.smf.specs.MetaAt.{metaAt, calledAt};
-ghost use Rattle.rules.specs.Rules.{rulesOf};
-ghost use Rattle.meta.specs.Meta.{spanOf, numberMeta, metaOf, metaPlaced, metaRead};
+ghost use Rattle.base.specs.Rules.{rulesOf};
+ghost use Rattle.meta.specs.Meta.{spanOf, numberMeta, metaOf, metaBefore, metaRead};
 ghost use Rattle.meta.specs.Narrow.{Narrow};
+use base::Range;
+use base::Refusal;
+use base::Rules;
+use base::u4;
+use base::u7;
+use base::u24;
+use header::SmpteTime;
 use header::field::word;
 use header::signed::from_byte;
-use int::u4;
-use int::u7;
-use int::u24;
-use payload::ReadSlice;
-use payload::read_varlen_slice;
-use refusal::Refusal;
-use rules::Range;
-use rules::Rules;
-use smpte::SmpteTime;
-use smpte::TriedSmpteTime;
+use header::smpte::TriedSmpteTime;
+use number::payload::ReadSlice;
+use number::payload::read_varlen_slice;
 
 // A track number that may be missing: the Rust's `Option<u16>`.
 pub enum OptionU16 {
@@ -66,7 +66,7 @@ pub enum ReadMeta {
 // A message whose payload is what was read last: it ends there.
 fn message(message: MetaMessage, load: Range) -> ReadMeta
     requires { ⌜ load .start + load .length < 2 ^ 64 ⌝ }
-    ensures { λ r. ⌜ metaRead r ≡ gives (metaPlaced message (load .start + load .length)) ⌝ }
+    ensures { λ r. ⌜ metaRead r ≡ gives (metaBefore message (load .start + load .length)) ⌝ }
 {
     let next = load.start + load.length;
     ReadMeta::Message(MetaAt { message, next })
@@ -235,7 +235,10 @@ impl MetaMessage {
         let type_byte = raw[at];
         match read_varlen_slice(raw, at + 1, rules) {
             ReadSlice::Refused(refusal) => ReadMeta::Refused(refusal),
-            ReadSlice::Slice(load) => named(type_byte, raw, load, rules),
+            ReadSlice::Slice(load) => {
+                let range = load.range;
+                named(type_byte, raw, range, rules)
+            }
         }
     }
 }

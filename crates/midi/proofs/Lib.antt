@@ -1,1 +1,3 @@
+pub mod BendFloats
+pub mod IdenticalBends
 pub mod Identical

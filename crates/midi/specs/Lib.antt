@@ -1,2 +1,3 @@
--- What a channel message says, in the paper's terms.
+-- Messages and bends, in the paper's numbers.
+pub mod Bend
 pub mod Midi

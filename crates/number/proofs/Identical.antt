@@ -4,12 +4,12 @@ use Prim.Native.Nat.{ℕ}
 use Rattle.smf.specs.Answer.{Answer, gives, refuses}
 use Rattle.smf.proofs.Answer.{injective}
 use Rattle.number.specs.Varlen.{triedU28, numberRead, writtenTo}
-use Rattle.refusal.proofs.RefusalNumbers.{refusalOf, number-back}
+use Rattle.base.proofs.RefusalNumbers.{refusalOf, number-back}
 use Rattle.smf.specs.Place.{NumberAt}
 use Rattle.number.specs.declared.varlen.ReadNumber.{ReadNumber}
 use Rattle.number.specs.declared.varlen.ReadNumber.the-variants as number
-use Rattle.number.specs.declared.varlen.Written.{Written}
-use Rattle.number.specs.declared.varlen.Written.the-variants as written
+use Rattle.number.specs.declared.varlen.WroteNumber.{WroteNumber}
+use Rattle.number.specs.declared.varlen.WroteNumber.the-variants as written
 use Rattle.number.specs.declared.varlen.TriedU28.{TriedU28}
 use Rattle.number.specs.declared.varlen.TriedU28.the-variants as u28
 
@@ -37,14 +37,14 @@ same-number (number.Refused n) = ap number.Refused (number-back n)
 pub numberRead-injective : {x y : ReadNumber} → numberRead x ≡ numberRead y → x ≡ y
 numberRead-injective = injective numberRead back-number same-number
 
-back-written : Answer ℕ → Written
+back-written : Answer ℕ → WroteNumber
 back-written (gives x) = written.Next x
 back-written (refuses n) = written.Refused (refusalOf n)
 
-same-written : (r : Written) → back-written (writtenTo r) ≡ r
+same-written : (r : WroteNumber) → back-written (writtenTo r) ≡ r
 unfolding back-written
 same-written (written.Next p) = refl
 same-written (written.Refused n) = ap written.Refused (number-back n)
 
-pub writtenTo-injective : {x y : Written} → writtenTo x ≡ writtenTo y → x ≡ y
+pub writtenTo-injective : {x y : WroteNumber} → writtenTo x ≡ writtenTo y → x ≡ y
 writtenTo-injective = injective writtenTo back-written same-written

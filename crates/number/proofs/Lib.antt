@@ -1,3 +1,6 @@
 pub mod Identical
-pub mod Walk
-pub mod Putting
+pub mod NumberReads
+pub mod NumberWrites
+pub mod IdenticalPayloads
+pub mod PayloadReads
+pub mod PayloadCopy

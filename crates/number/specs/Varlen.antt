@@ -4,13 +4,13 @@ use Prim.Native.Nat.{ℕ}
 use Rattle.smf.specs.Answer.{Answer, gives, refuses}
 use Rattle.smf.specs.Place.{NumberAt}
 use Rattle.smf.specs.Write as write
-use Rattle.refusal.specs.Refusal.{numberOf}
+use Rattle.base.specs.Refusal.{numberOf}
 use Rattle.number.specs.declared.varlen.TriedU28.{TriedU28}
 use Rattle.number.specs.declared.varlen.TriedU28.the-variants as u28
 use Rattle.number.specs.declared.varlen.ReadNumber.{ReadNumber}
 use Rattle.number.specs.declared.varlen.ReadNumber.the-variants as number
-use Rattle.number.specs.declared.varlen.Written.{Written}
-use Rattle.number.specs.declared.varlen.Written.the-variants as written
+use Rattle.number.specs.declared.varlen.WroteNumber.{WroteNumber}
+use Rattle.number.specs.declared.varlen.WroteNumber.the-variants as written
 
 abbrev pub triedU28 : TriedU28 → Answer ℕ
 triedU28 (u28.Made x) = gives (x .0)
@@ -20,10 +20,10 @@ abbrev pub numberRead : ReadNumber → Answer NumberAt
 numberRead (number.Number n) = gives (record { value = n .value .0; next = n .next })
 numberRead (number.Refused n) = refuses (numberOf n)
 
-abbrev pub writtenTo : Written → Answer ℕ
+abbrev pub writtenTo : WroteNumber → Answer ℕ
 writtenTo (written.Next p) = gives p
 writtenTo (written.Refused n) = refuses (numberOf n)
 
 -- with what the buffer holds at the end
-abbrev pub writeLeft : Written → List ℕ → write.Written
+abbrev pub writeLeft : WroteNumber → List ℕ → write.Written
 writeLeft r buffer = record { buffer = buffer; answer = writtenTo r }

@@ -5,13 +5,11 @@ ghost use Rattle.smf.specs.Number.{encodeNumber};
 ghost use Rattle.smf.specs.Place.{numberAt};
 ghost use Rattle.smf.specs.Width.{lowBits, largest, tryWidth};
 ghost use Rattle.smf.specs.Write.{write, numberBytes};
-ghost use Rattle.rules.specs.Rules.{rulesOf};
+ghost use Rattle.base.specs.Rules.{rulesOf};
 ghost use Rattle.number.specs.Varlen.{triedU28, numberRead, writeLeft};
-use refusal::Refusal;
-use rules::Rules;
-
-// A tick count, a length: what a variable-length number holds.
-pub struct u28(pub u32);
+use crate::u28;
+use base::Refusal;
+use base::Rules;
 
 pub enum TriedU28 {
     Made(u28),
@@ -62,7 +60,7 @@ pub enum ReadNumber {
 }
 
 // What a write answers: the place after the last byte written.
-pub enum Written {
+pub enum WroteNumber {
     Next(usize),
     Refused(Refusal),
 }
@@ -126,19 +124,19 @@ impl u28 {
     }
 
     // The shortest form, put at a place of a lent buffer.
-    pub fn write_varlen(self, out: &mut [u8], at: usize) -> Written
+    pub fn write_varlen(self, out: &mut [u8], at: usize) -> WroteNumber
         ensures { λ r. ⌜ writeLeft r (now (out .exit)) ≡ write (numberBytes (self .0)) (now (out .entry)) at ⌝ }
     {
         let int = self.0;
         if 0xFFF_FFFF < int {
-            return Written::Refused(Refusal::AboveWidth);
+            return WroteNumber::Refused(Refusal::AboveWidth);
         }
         let n = self.varlen_length();
         if out.len() < n {
-            return Written::Refused(Refusal::NoRoom);
+            return WroteNumber::Refused(Refusal::NoRoom);
         }
         if out.len() - n < at {
-            return Written::Refused(Refusal::NoRoom);
+            return WroteNumber::Refused(Refusal::NoRoom);
         }
         let end = at + n;
         let mut place = end - 1;
@@ -149,6 +147,6 @@ impl u28 {
             out[place] = (128 + high % 128) as u8;
             high = high / 128;
         }
-        Written::Next(end)
+        WroteNumber::Next(end)
     }
 }

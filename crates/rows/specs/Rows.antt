@@ -1,4 +1,4 @@
--- An event as a row of ten numbers.
+-- An event as a row of numbers.
 use mathlib.Core.List.{List, [], _∷_}
 use Prim.Native.Nat.{ℕ, _+_}
 use Rattle.smf.specs.Answer.{pick}
@@ -7,6 +7,10 @@ use Rattle.smf.specs.Signed.{byteOfSigned}
 use Rattle.smf.specs.Kind as kind
 use Rattle.smf.specs.Event.{Event}
 use Rattle.rows.specs.declared.Row.{Row}
+
+-- how many cells a row has
+abbrev pub width : ℕ
+width = 10
 
 -- a row's numbers behind its delta: the kind's number, six fields, the payload's start and length
 abbrev pub rowNumbers : Row → List ℕ

@@ -1,20 +1,26 @@
-// An event as a row of ten numbers: the delta, the kind's number, six fields, the payload's start and length.
+// An event as a row of numbers: the delta, the kind's number, six fields, the payload's start and length.
 // What the loader hands to C, what the listing prints and what sameness compares is the row.
+pub mod back;
+pub mod lists;
+
 ghost use mathlib.Core.Path.{_≡_};
 ghost use mathlib.Core.List.{[], _∷_};
 ghost use Rattle.smf.specs.Kind.{smpteOffset, keySignature};
-ghost use Rattle.smpte.specs.Smpte.{smpteTimeOf};
+ghost use Rattle.header.specs.Smpte.{smpteTimeOf};
 ghost use Rattle.midi.specs.Midi.{messageOf};
 ghost use Rattle.meta.specs.Meta.{numberMeta, metaOf};
 ghost use Rattle.event.specs.Event.{kindOf};
 ghost use Rattle.rows.specs.Rows.{rowNumbers, midiRow, metaRow, kindRow};
-use event::track_event::TrackEventKind;
+use base::Range;
+use event::TrackEventKind;
+use header::SmpteTime;
 use header::signed::to_byte;
 use meta::MetaMessage;
 use meta::OptionU16;
 use midi::MidiMessage;
-use rules::Range;
-use smpte::SmpteTime;
+
+// How many cells a row has.
+pub const WIDTH: usize = 10;
 
 // A row without its delta.
 pub struct Row {
@@ -162,7 +168,7 @@ pub fn kind_row(kind: TrackEventKind) -> Row
 }
 
 // The row of a delta and a kind, as the caller is lent it.
-pub fn event_row(delta: u32, kind: TrackEventKind) -> [u64; 10]
+pub fn event_row(delta: u32, kind: TrackEventKind) -> [u64; WIDTH]
     ensures { λ r. ⌜ r ≡ delta ∷ kindRow (kindOf kind) ⌝ }
 {
     let row = kind_row(kind);

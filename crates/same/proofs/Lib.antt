@@ -1,4 +1,7 @@
-pub mod Telling
+pub mod SameTests
 pub mod Loads
 pub mod Identical
-pub mod WayBack
+pub mod RowKinds
+pub mod SameLists
+pub mod RowsLeft
+pub mod Asked

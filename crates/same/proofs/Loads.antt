@@ -10,7 +10,7 @@ use lib.Seq.{length-take-le, take-suc, take-all, take-length, getD-take, getD-dr
 use Rattle.smf.specs.Event.{bytesOf}
 use Rattle.smf.proofs.Answer.{by-lt}
 use Rattle.same.specs.Same.{Tells, span}
-use Rattle.same.proofs.Telling.{tells-too}
+use Rattle.same.proofs.SameTests.{tells-too}
 
 -- what there is of a range
 

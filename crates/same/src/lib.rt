@@ -6,10 +6,13 @@ ghost use lib.ListN.{length};
 ghost use Rattle.smf.specs.Event.{mapKind, bytesOf, Same};
 ghost use Rattle.event.specs.Event.{kindOf, eventOf};
 ghost use Rattle.same.specs.Same.{Tells, span, rowFields, rowSpan};
-use event::track_event::TrackEvent;
-use event::track_event::TrackEventKind;
+use event::TrackEvent;
+use event::TrackEventKind;
 use rows::Row;
 use rows::kind_row;
+
+pub mod lists;
+pub mod of_rows;
 
 // How many bytes of a range there are.
 fn held(bytes: &[u8], start: usize, size: usize) -> usize

@@ -9,7 +9,7 @@ use lib.Dec.{ltb, lit<, lit≤}
 use lib.Ieee.{Format, nan, fin, mul, ofInt}
 use borrow.Author.Tests.{ltb-false, lt-ltb, le-ltb}
 use Rattle.smf.specs.Answer.{gives, refuses}
-use Rattle.smf.specs.Bend.{lowest, highest, bendOf, clamped, rawOf, askBend, scaled, rawOfFloat, quotient, askFloat, GivesQuotient}
+use Rattle.smf.specs.Bend.{lowest, highest, bendOf, clamped, rawBend, askBend, scaled, rawBendOfFloat, quotient, askFloat, GivesQuotient}
 use Rattle.smf.proofs.Answer.{by-lt, pick-test}
 use Rattle.smf.proofs.Width.{try-in, try-out}
 use Rattle.smf.proofs.BendFloat.{one, step, quotient-is, quotient-exact, scaled-quotient}
@@ -47,21 +47,21 @@ raised (pos n) h = record { raw = n + 8192; small = omega arith; is = refl }
 raised (negsuc n) h = record { raw = 8192 - suc n; small = omega arith; is = rw (le-ltb 8192 (suc n) h) }
 
 -- .. which is the raw bend of an integer, once that is clamped
-pub raw-small : (z : ℤ) → rawOf z < 2 ^ 14
-unfolding rawOf
+pub raw-small : (z : ℤ) → rawBend z < 2 ^ 14
+unfolding rawBend
 raw-small z = let r = raised (clamped z) (clamped-mag z) in rw (r .is) (r .small)
 
-pub raw-is : (z : ℤ) → clamped z +ℤ pos 8192 ≡ pos (rawOf z)
-unfolding rawOf
+pub raw-is : (z : ℤ) → clamped z +ℤ pos 8192 ≡ pos (rawBend z)
+unfolding rawBend
 raw-is z = let r = raised (clamped z) (clamped-mag z) in r .is ∙ ap (λ (x : ℤ). pos (natAbs x)) (sym (r .is))
 
 -- from an integer and back: the clamped integer
-pub bend-back : (z : ℤ) → bendOf (rawOf z) ≡ clamped z
+pub bend-back : (z : ℤ) → bendOf (rawBend z) ≡ clamped z
 bend-back z = ap (λ (x : ℤ). x -ℤ pos 8192) (sym (raw-is z)) ∙ +ℤ-negℤ-cancel (clamped z) (pos 8192)
 
 -- to an integer and back: the raw bend
-pub raw-back : (raw : ℕ) → raw < 2 ^ 14 → rawOf (bendOf raw) ≡ raw
-unfolding rawOf
+pub raw-back : (raw : ℕ) → raw < 2 ^ 14 → rawBend (bendOf raw) ≡ raw
+unfolding rawBend
 raw-back raw h = rw (clamped-same (bendOf raw) (bend-mag raw h)) (ap natAbs (-ℤ-+ℤ-cancel (pos raw) (pos 8192)))
 
 -- a bend's value asked, by the width
@@ -101,19 +101,19 @@ ask-exact f raw = by-lt raw (2 ^ 14)
     (λ h. rw (sym (ask-out raw h)) tt)
 
 -- to a float and back: the raw bend
-pub float-back : (f : Format) (raw : ℕ) → raw < 2 ^ 14 → rawOfFloat (quotient f (bendOf raw)) ≡ raw
-unfolding rawOfFloat
-float-back f raw h = ap rawOf (scaled-quotient f (bendOf raw) (bend-mag raw h)) ∙ raw-back raw h
+pub float-back : (f : Format) (raw : ℕ) → raw < 2 ^ 14 → rawBendOfFloat (quotient f (bendOf raw)) ≡ raw
+unfolding rawBendOfFloat
+float-back f raw h = ap rawBend (scaled-quotient f (bendOf raw) (bend-mag raw h)) ∙ raw-back raw h
 
 -- document 01: NaN gives -8,192, 1.0 gives 8,191, and a fraction is dropped toward zero: -1.5 / 8,192 gives -1
-nan-lowest : bendOf (rawOfFloat nan) ≡ lowest
-unfolding clamped rawOf scaled rawOfFloat
+nan-lowest : bendOf (rawBendOfFloat nan) ≡ lowest
+unfolding clamped rawBend scaled rawBendOfFloat
 nan-lowest = refl
 
-one-highest : bendOf (rawOfFloat one) ≡ highest
-unfolding clamped rawOf scaled rawOfFloat
+one-highest : bendOf (rawBendOfFloat one) ≡ highest
+unfolding clamped rawBend scaled rawBendOfFloat
 one-highest = refl
 
-toward-zero : bendOf (rawOfFloat (fin true 3 (negsuc 13))) ≡ negsuc 0
-unfolding clamped rawOf scaled rawOfFloat
+toward-zero : bendOf (rawBendOfFloat (fin true 3 (negsuc 13))) ≡ negsuc 0
+unfolding clamped rawBend scaled rawBendOfFloat
 toward-zero = refl

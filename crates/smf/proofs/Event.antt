@@ -16,7 +16,7 @@ use Rattle.smf.specs.Place.{Span, placeOf}
 use Rattle.smf.specs.Wire.{RawEvent, rawEvent, Taken, taken, Reading, reads, refused, readRaw, encodeRawEvent, runningAfter}
 use Rattle.smf.specs.Kind.{Meta, trackNumber, noTrackNumber, text, midiChannel, midiPort, endOfTrack, tempo, smpteOffset, timeSignature, keySignature, sequencerSpecific, unknown}
 use Rattle.smf.specs.Kind.{Kind, midi, sysEx, escape, meta, called, rawOf}
-use Rattle.smf.specs.Event.{Event, event, mapMeta, mapKind, mapEvent, named, nameRaw, readEvent, EventAt, spanBefore, eventPlaced, placed, eventAt}
+use Rattle.smf.specs.Event.{Event, event, mapMeta, mapKind, mapEvent, named, nameRaw, readEvent, EventAt, spanBefore, eventPlaced, ReadAt, readsAt, refusedAt, placed, eventAt}
 use Rattle.smf.specs.Event.{metaFits, kindFits, metaLoad, kindLoad, inside, bytesOf, isNamed, metaMisnamed, kindMisnamed, isLegal, noSpan, spanLength, legal, encodeEvent}
 use Rattle.smf.proofs.Answer.{pick-test, both, said-of, Alike, Gives}
 use Rattle.smf.proofs.Ends.{Ends, ends-bare, ends-length, ends-tail, ends-load}
@@ -185,15 +185,15 @@ pub record Reached (rules : Rules) (running : ℕ) (s : List ℕ) (at : ℕ) (a 
   pub some : 0 < a .used
   pub within : at + a .used ≤ length s
 
-abbrev pub EventReached : Rules → ℕ → List ℕ → ℕ → Reading EventAt → Type 0
-EventReached rules running s at (reads a) = Reached rules running s at a
-EventReached rules running s at (refused n after) = readEvent rules running (drop at s) ≡ refused n after
+abbrev pub EventReached : Rules → ℕ → List ℕ → ℕ → ReadAt → Type 0
+EventReached rules running s at (readsAt a) = Reached rules running s at a
+EventReached rules running s at (refusedAt n used after) = (readEvent rules running (drop at s) ≡ refused n after) × (used ≡ 0)
 
 pub event-reached : (rules : Rules) (running : ℕ) (s : List ℕ) (at : ℕ) → EventReached rules running s at (eventAt rules running s at)
 unfolding eventAt placed
 event-reached rules running s at = by (readEvent rules running (drop at s)) refl where
   by : (a : Reading (Taken (Event (List ℕ)))) → readEvent rules running (drop at s) ≡ a → EventReached rules running s at (placed s at a)
-  by (refused n after) e = e
+  by (refused n after) e = (e, refl)
   by (reads t) e =
       let past = event-read rules running (drop at s) t e .past in
       let tail : t .rest ≡ drop (at + (length (drop at s) - length (t .rest))) s = read-tail rules running (drop at s) t e ∙ drop-drop (length (drop at s) - length (t .rest)) at s in
@@ -221,12 +221,16 @@ module _ (rules : Rules) (running : ℕ) (s : List ℕ) where
   event-alike = raw-named-alike (readRaw rules running s) (readRaw (leniently rules) running s) (raw-alike rules running s)
 
 -- and so at a place
-placed-alike : (s : List ℕ) (at : ℕ) (a b : Reading (Taken (Event (List ℕ)))) → ReadsAlike a b → ReadsAlike (placed s at a) (placed s at b)
+abbrev pub AlikeAt : ReadAt → ReadAt → Type 0
+AlikeAt (readsAt a) b = b ≡ readsAt a
+AlikeAt (refusedAt n used after) b = Unit {0}
+
+placed-alike : (s : List ℕ) (at : ℕ) (a b : Reading (Taken (Event (List ℕ)))) → ReadsAlike a b → AlikeAt (placed s at a) (placed s at b)
 unfolding placed
 placed-alike s at (reads t) b h = rw h
 placed-alike s at (refused n after) b h = tt
 
-pub event-at-alike : (rules : Rules) (running : ℕ) (s : List ℕ) (at : ℕ) → ReadsAlike (eventAt rules running s at) (eventAt (leniently rules) running s at)
+pub event-at-alike : (rules : Rules) (running : ℕ) (s : List ℕ) (at : ℕ) → AlikeAt (eventAt rules running s at) (eventAt (leniently rules) running s at)
 unfolding eventAt
 event-at-alike rules running s at = placed-alike s at (readEvent rules running (drop at s)) (readEvent (leniently rules) running (drop at s)) (event-alike rules running (drop at s))
 

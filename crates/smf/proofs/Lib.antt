@@ -22,5 +22,6 @@ pub mod Reading
 pub mod Legal
 pub mod Lists
 pub mod ListPlaces
-pub mod Checks
+pub mod Steps
+pub mod ListLegality
 pub mod ListWrites

@@ -10,7 +10,7 @@ use Rattle.smf.specs.Answer.{Rules, leniently}
 use Rattle.smf.specs.Running.{isRunning}
 use Rattle.smf.specs.Place.{Span, placeOf, Sited}
 use Rattle.smf.specs.Wire.{Taken, Reading, reads, refused}
-use Rattle.smf.specs.Event.{Event, mapEvent, readEvent, EventAt, eventPlaced, placed, eventAt, bytesOf}
+use Rattle.smf.specs.Event.{Event, mapEvent, readEvent, EventAt, eventPlaced, ReadAt, readsAt, refusedAt, placed, eventAt, bytesOf}
 use Rattle.smf.specs.Lists.{Stop, ended, full, stopped, ListTaken, ListAt, listPlaced, readMore, readList, eventsOf, listAt}
 use Rattle.smf.proofs.Answer.{by-lt, pick-test}
 use Rattle.smf.proofs.Place.{site-begun}
@@ -58,10 +58,10 @@ module _ (rules : Rules) (running : ℕ) (s : List ℕ) (at p : ℕ) (site : Sit
   more-full h = rw (more-left rules running (drop p s) (some h)) (ap (λ (x : ℕ). stopsThere full x running) site)
 
   -- the event there is refused
-  pub more-refused : (n : ℕ) {m after : ℕ} → p < length s → eventAt rules running s p ≡ refused m after
+  pub more-refused : (n : ℕ) {m used after : ℕ} → p < length s → eventAt rules running s p ≡ refusedAt m used after
       → listPlaced s at (readMore rules (suc n) running (drop p s)) ≡ stopsThere (stopped m) p running
-  more-refused n {m} {after} h e =
-      let r : readEvent rules running (drop p s) ≡ refused m after = subst (EventReached rules running s p) e (event-reached rules running s p) in
+  more-refused n {m} {used} {after} h e =
+      let r : readEvent rules running (drop p s) ≡ refused m after = subst (EventReached rules running s p) e (event-reached rules running s p) .0 in
       rw (more-not rules running n (drop p s) m after (some h) r) (ap (λ (x : ℕ). stopsThere (stopped m) x running) site)
 
   taken-step : (n : ℕ) (t : Taken (Event (List ℕ))) → p < length s → readEvent rules running (drop p s) ≡ reads t → (a : EventAt) → eventPlaced s p t ≡ a
@@ -75,17 +75,17 @@ module _ (rules : Rules) (running : ℕ) (s : List ℕ) (at p : ℕ) (site : Sit
       rw (← q, tail, more-read rules running n (drop p s) t (some h) e, same)
 
   -- the event there is the next of the list
-  pub more-step : (n : ℕ) {a : EventAt} → p < length s → eventAt rules running s p ≡ reads a
+  pub more-step : (n : ℕ) {a : EventAt} → p < length s → eventAt rules running s p ≡ readsAt a
       → listPlaced s at (readMore rules (suc n) running (drop p s)) ≡ inFront (a .event) (listPlaced s at (readMore rules n (a .running) (drop (p + a .used) s)))
   unfolding eventAt placed
   more-step n {a} h e = by (readEvent rules running (drop p s)) refl e where
-    by : (r : Reading (Taken (Event (List ℕ)))) → readEvent rules running (drop p s) ≡ r → placed s p r ≡ reads a
+    by : (r : Reading (Taken (Event (List ℕ)))) → readEvent rules running (drop p s) ≡ r → placed s p r ≡ readsAt a
         → listPlaced s at (readMore rules (suc n) running (drop p s)) ≡ inFront (a .event) (listPlaced s at (readMore rules n (a .running) (drop (p + a .used) s)))
     by (reads t) q f = taken-step n t h q a (cc)
     by (refused m after) q f = let z : _≡_ {A = ℕ} 0 1 = cc in absurd (omega arith)
 
   -- and the place after it is reached from there too, within the bytes
-  pub more-next : {a : EventAt} → p < length s → eventAt rules running s p ≡ reads a → Sited s at (p + a .used) × (p + a .used ≤ length s) × (p < p + a .used)
+  pub more-next : {a : EventAt} → p < length s → eventAt rules running s p ≡ readsAt a → Sited s at (p + a .used) × (p + a .used ≤ length s) × (p < p + a .used)
   more-next {a} h e =
       let r : Reached rules running s p a = subst (EventReached rules running s p) e (event-reached rules running s p) in
       (omega (arith, r .within, length-drop at s, length-drop p s, length-drop (p + a .used) s), r .within, omega (arith, r .some))
@@ -98,11 +98,11 @@ module _ (rules : Rules) (s : List ℕ) (at : ℕ) where
 
   one-itself : (n running p : ℕ) → Sited s at p → p < length s
       → ((r q : ℕ) → Sited s at q → Themselves (readMore rules n r (drop q s)))
-      → (a : Reading EventAt) → eventAt rules running s p ≡ a → Themselves (readMore rules (suc n) running (drop p s))
-  one-itself n running p site h others (refused m after) e =
-      let r : readEvent rules running (drop p s) ≡ refused m after = subst (EventReached rules running s p) e (event-reached rules running s p) in
+      → (a : ReadAt) → eventAt rules running s p ≡ a → Themselves (readMore rules (suc n) running (drop p s))
+  one-itself n running p site h others (refusedAt m used after) e =
+      let r : readEvent rules running (drop p s) ≡ refused m after = subst (EventReached rules running s p) e (event-reached rules running s p) .0 in
       rw (more-not rules running n (drop p s) m after (some rules running s at p site h) r)
-  one-itself n running p site h others (reads a) e =
+  one-itself n running p site h others (readsAt a) e =
       let r : Reached rules running s p a = subst (EventReached rules running s p) e (event-reached rules running s p) in
       let own = mapEvent (bytesOf s) (a .event) in
       let more = others (a .running) (p + a .used) (more-next rules running s at p site h e .0) in

@@ -16,7 +16,7 @@ use Rattle.smf.specs.Write.{over}
 use Rattle.smf.specs.Event.{Event, mapEvent, bytesOf, encodeEvent}
 use Rattle.smf.specs.Lists.{RecordsLegal, listed, Checked, allLegal, illegal, check, eventAfter, encodeList, listAfter, ListAnswer, wrote, refusesAt, ListWritten, listLeft, listPut, writeChecked, writeList}
 use Rattle.smf.proofs.Answer.{pick-test}
-use Rattle.smf.proofs.Checks.{check-legal, check-given}
+use Rattle.smf.proofs.ListLegality.{check-legal, check-given}
 
 module _ (rules : Rules) (most running : ℕ) (bytes : List ℕ) (records : List (Event Span)) (count : ℕ) (buffer : List ℕ) where
   abbrev own : List ℕ

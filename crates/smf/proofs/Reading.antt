@@ -17,7 +17,7 @@ use Rattle.smf.specs.Place.{placeOf, Sited, NumberAt, numberAt, Span, pa
 use Rattle.smf.specs.Running.{isRunning}
 use Rattle.smf.specs.Wire.{RawEvent, rawEvent, Taken, taken, Reading, reads, refused, system, typed, dataLength, tableLength, readOne, readTwo, readChannel, withPayload, readMeta, readStatus, readBody, afterDelta, readRaw}
 use Rattle.smf.specs.Kind.{Meta, Kind, midi, sysEx, escape, meta, messageOne, messageTwo, messageWith, calledMeta, called}
-use Rattle.smf.specs.Event.{Event, event, mapMeta, mapKind, mapEvent, named, nameRaw, EventAt, spanBefore, eventPlaced, placed, readEvent, eventAt, bytesOf}
+use Rattle.smf.specs.Event.{Event, event, mapMeta, mapKind, mapEvent, named, nameRaw, spanBefore, eventPlaced, ReadAt, readsAt, refusedAt, placed, readEvent, eventAt, bytesOf}
 use Rattle.smf.specs.MetaAt.{MetaTaken, metaNamed, readMetaMessage, MetaAt, metaPlaced, metaAt}
 use Rattle.smf.proofs.Answer.{by-test, by-lt, said-of, said-refused}
 use Rattle.smf.proofs.Payload.{Loaded, PayloadLoaded, payload-loaded}
@@ -25,8 +25,8 @@ use Rattle.smf.proofs.Place.{site-next, Reached, NumberReached, number-
 use Rattle.smf.proofs.MetaAt.{endOf, LoadedAt, PayloadReached, payload-reached}
 
 -- an event read, with the bytes used and the running status after it
-abbrev pub told : Event Span → ℕ → ℕ → Reading EventAt
-told e used running = reads (record { event = e; used = used; running = running })
+abbrev pub told : Event Span → ℕ → ℕ → ReadAt
+told e used running = readsAt (record { event = e; used = used; running = running })
 
 -- Channel statuses
 
@@ -43,7 +43,7 @@ pub data-some : (st : ℕ) → 0 < dataLength st
 data-some st = ⊎-elim (λ n. omega arith) (λ n. omega arith) (one-or-two st)
 
 module _ (rules : Rules) (s : List ℕ) (start at st delta : ℕ) (site : Sited s start at) where
-  abbrev channelled : Reading EventAt
+  abbrev channelled : ReadAt
   channelled = placed s start (nameRaw rules (readChannel st delta (drop at s)))
 
   -- as many bytes used as the place after them says
@@ -58,7 +58,7 @@ module _ (rules : Rules) (s : List ℕ) (start at st delta : ℕ) (site : Sited 
   unfolding readChannel
   is-two n = rw n
 
-  pub data-short : length s - at < dataLength st → refused 8 st ≡ channelled
+  pub data-short : length s - at < dataLength st → refusedAt 8 0 st ≡ channelled
   unfolding placed nameRaw readOne readTwo
   data-short h =
       ⊎-elim (λ n. rw (is-one n, drop-of-length-le s {i = at} (omega arith)))
@@ -76,7 +76,7 @@ module _ (rules : Rules) (s : List ℕ) (start at st delta : ℕ) (site : Sited 
       let e : suc (at + 1) ≡ at + 2 = omega arith in
       rw (drop-cons s (at + 1) 0 (omega arith), e)
 
-  pub data-top : dataLength st ≤ length s - at → 0x80 ≤ getD s at 0 → refused 9 st ≡ channelled
+  pub data-top : dataLength st ≤ length s - at → 0x80 ≤ getD s at 0 → refusedAt 9 0 st ≡ channelled
   unfolding placed nameRaw readOne readTwo
   data-top h b =
       ⊎-elim (λ n. rw (is-one n, first (omega arith), le-ltb (getD s at 0) 0x80 b))
@@ -96,7 +96,7 @@ module _ (rules : Rules) (s : List ℕ) (start at st delta : ℕ) (site : Sited 
     pub data-more : at + 1 < length s
     data-more = omega (arith, two)
 
-    pub data-second-top : 0x80 ≤ getD s (at + 1) 0 → refused 9 st ≡ channelled
+    pub data-second-top : 0x80 ≤ getD s (at + 1) 0 → refusedAt 9 0 st ≡ channelled
     unfolding placed nameRaw readTwo
     data-second-top b =
         let m = data-more in
@@ -119,10 +119,10 @@ site-shift : (s : List ℕ) (start at : ℕ) (rest : List ℕ) → Sited s start
 site-shift s start at rest site h = omega (arith, length-drop at s, length-drop start s)
 
 module _ (rules : Rules) (s : List ℕ) (start at st delta : ℕ) (site : Sited s start at) (within : at ≤ length s) where
-  abbrev loaded : Reading EventAt
+  abbrev loaded : ReadAt
   loaded = placed s start (nameRaw rules (withPayload delta (system st) (readPayload rules (drop at s))))
 
-  pub payload-refused : {n : ℕ} → payloadAt rules s at ≡ refuses n → refused n 0 ≡ loaded
+  pub payload-refused : {n : ℕ} → payloadAt rules s at ≡ refuses n → refusedAt n 0 0 ≡ loaded
   unfolding placed nameRaw
   payload-refused {n} e =
       let r : readPayload rules (drop at s) ≡ refuses n = said-refused (PayloadReached rules s at) (payload-reached rules s at within) e in
@@ -201,13 +201,13 @@ meta-less rules (t ∷ u) = by (readPayload rules u) (payload-loaded rules u) wh
   by (refuses n) l = tt
 
 module _ (rules : Rules) (s : List ℕ) (start at delta : ℕ) (site : Sited s start at) where
-  abbrev typedly : Reading EventAt
+  abbrev typedly : ReadAt
   typedly = placed s start (nameRaw rules (readMeta rules delta (drop at s)))
 
   -- by what the message's reader answered at the place
   abbrev pub Answers : Answer MetaAt → Type 0
   Answers (gives m) = (told (event delta (meta (m .message))) (m .next - start) 0 ≡ typedly) × (start ≤ m .next)
-  Answers (refuses n) = refused n 0 ≡ typedly
+  Answers (refuses n) = refusedAt n 0 0 ≡ typedly
 
   pub meta-answers : Answers (metaAt rules s at)
   unfolding metaAt placed mapEvent mapKind
@@ -277,12 +277,12 @@ running-channel r h z = by (ltb r 0x80) refl (ltb r 0xF0) refl (rw (ne-eqb r 0 z
 -- The whole event
 
 module _ (rules : Rules) (running : ℕ) (s : List ℕ) (at : ℕ) where
-  pub event-invalid : isRunning running ≡ false → refused 1 running ≡ eventAt rules running s at
+  pub event-invalid : isRunning running ≡ false → refusedAt 1 0 running ≡ eventAt rules running s at
   unfolding eventAt placed readEvent nameRaw readRaw
   event-invalid h = rw h
 
   module _ (valid : isRunning running ≡ true) where
-    pub event-refused : {n : ℕ} → numberAt rules s at ≡ refuses n → refused n running ≡ eventAt rules running s at
+    pub event-refused : {n : ℕ} → numberAt rules s at ≡ refuses n → refusedAt n 0 running ≡ eventAt rules running s at
     unfolding eventAt placed readEvent nameRaw readRaw afterDelta
     event-refused {n} e =
         let r : readNumber rules (drop at s) ≡ refuses n = said-refused (NumberReached rules s at) (number-reached rules s at) e in

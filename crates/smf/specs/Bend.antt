@@ -26,8 +26,8 @@ unfoldable pub clamped : ℤ → ℤ
 clamped z = pick (ltZ z lowest) lowest (pick (ltZ highest z) highest z)
 
 -- the raw bend of an integer
-unfoldable pub rawOf : ℤ → ℕ
-rawOf z = natAbs (clamped z +ℤ pos 8192)
+unfoldable pub rawBend : ℤ → ℕ
+rawBend z = natAbs (clamped z +ℤ pos 8192)
 
 -- a bend's value asked: 18 where the raw bend is above its width
 unfoldable pub askBend : ℕ → Answer ℤ
@@ -44,8 +44,8 @@ scaled (inf negative) = signed negative 8192
 scaled (fin negative m e) = signed negative (min (m * up e) (down e) * 8192 / down e)
 
 -- the raw bend of a float: clamp again
-unfoldable pub rawOfFloat : Float → ℕ
-rawOfFloat x = rawOf (scaled x)
+unfoldable pub rawBendOfFloat : Float → ℕ
+rawBendOfFloat x = rawBend (scaled x)
 
 -- to a float: the format's value nearest to the quotient of a signed bend by 8,192 ..
 unfoldable pub quotient : Format → ℤ → Float

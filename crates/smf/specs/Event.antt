@@ -81,12 +81,18 @@ eventPlaced s at t =
       running = t .running;
     }
 
-unfoldable pub placed : List ℕ → ℕ → Reading (Taken (Event (List ℕ))) → Reading EventAt
-placed s at (reads t) = reads (eventPlaced s at t)
-placed s at (refused n running) = refused n running
+-- what reading an event at a place answers: the event; or the number of a refusal, the bytes used and the running status that it leaves
+pub data ReadAt : Type 0 where
+  readsAt : EventAt → ReadAt
+  refusedAt : (number used running : ℕ) → ReadAt
+
+-- document 01: a refused read of one event gives the number, 0 bytes used and the running status the Rust is left with
+unfoldable pub placed : List ℕ → ℕ → Reading (Taken (Event (List ℕ))) → ReadAt
+placed s at (reads t) = readsAt (eventPlaced s at t)
+placed s at (refused n running) = refusedAt n 0 running
 
 -- the event at a place
-unfoldable pub eventAt : Rules → ℕ → List ℕ → ℕ → Reading EventAt
+unfoldable pub eventAt : Rules → ℕ → List ℕ → ℕ → ReadAt
 eventAt rules running s at = placed s at (readEvent rules running (drop at s))
 
 -- Writing

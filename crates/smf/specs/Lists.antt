@@ -11,7 +11,7 @@ use Rattle.smf.specs.Place.{Span, placeOf}
 use Rattle.smf.specs.Write.{over}
 use Rattle.smf.specs.Wire.{Taken, Reading, reads, refused, runningAfter}
 use Rattle.smf.specs.Kind.{meta, endOfTrack, rawOf}
-use Rattle.smf.specs.Event.{Event, event, mapEvent, bytesOf, readEvent, eventPlaced, isLegal, legal, encodeEvent}
+use Rattle.smf.specs.Event.{Event, event, mapEvent, bytesOf, readEvent, eventPlaced, ReadAt, readsAt, refusedAt, eventAt, isLegal, legal, encodeEvent}
 
 -- Reading
 
@@ -51,11 +51,11 @@ unfoldable pub readList : Rules → ℕ → ℕ → List ℕ → ListTaken
 readList rules most running s = pick (isRunning running) (readMore rules most running s) (stopsAt (stopped 1) s running)
 
 -- the events by themselves
-abbrev pub eventOf : Taken (Event (List ℕ)) → Event (List ℕ)
-eventOf t = t .value
+abbrev pub takenEvent : Taken (Event (List ℕ)) → Event (List ℕ)
+takenEvent t = t .value
 
 abbrev pub eventsOf : ListTaken → List (Event (List ℕ))
-eventsOf l = map eventOf (l .events)
+eventsOf l = map takenEvent (l .events)
 
 -- a list read at a place: payloads as start and length in the bytes lent, and the place of the next unread byte
 pub record ListAt : Type 0 where
@@ -79,6 +79,30 @@ listPlaced s at l =
 -- the list at a place
 unfoldable pub listAt : Rules → ℕ → ℕ → List ℕ → ℕ → ListAt
 listAt rules most running s at = listPlaced s at (readList rules most running (drop at s))
+
+-- One step of reading a list
+
+-- where a reader is: the place of the next unread byte, the running status there, and how many events it has taken
+pub record Reader : Type 0 where
+  pub place : ℕ
+  pub running : ℕ
+  pub count : ℕ
+
+-- the next event of the list, and where the reader is behind it; or why reading stops, and the reader stays where it is
+pub data Next : Type 0 where
+  takes : Event Span → Reader → Next
+  stops : Stop → Next
+
+unfoldable pub stepOn : Reader → ReadAt → Next
+stepOn r (readsAt a) = takes (a .event) (record { place = r .place + a .used; running = a .running; count = r .count + 1 })
+stepOn r (refusedAt n used after) = stops (stopped n)
+
+-- document 01: reading stops at the end, or full, with so many read and bytes left, or refused
+unfoldable pub nextAt : Rules → ℕ → List ℕ → Reader → Next
+nextAt rules most s r =
+    pick (leb (length s) (r .place)) (stops ended)
+    (pick (leb most (r .count)) (stops full)
+    (stepOn r (eventAt rules (r .running) s (r .place))))
 
 -- document 01: a list holds so many records and a count
 pub record Held : Type 0 where

@@ -1,51 +1,57 @@
 -- What the list reader's loop keeps: the events so far are those that its records hold.
-use mathlib.Core.Path.{_≡_, ap}
+use mathlib.Core.Path.{_≡_, ap, sym, subst, _∙_}
 use mathlib.Core.Bool.{true, false}
 use mathlib.Core.List.{List, [], _∷_, _++_, map}
-use Prim.Native.Nat.{ℕ, _+_, _<_}
+use Prim.Native.Nat.{ℕ, _+_}
 use lib.ListN.{length, set}
 use Rattle.smf.specs.Answer.{Rules}
 use Rattle.smf.specs.Running.{isRunning}
 use Rattle.smf.specs.Place.{Span}
 use Rattle.smf.specs.Event as smf
-use Rattle.smf.specs.Lists.{Stop, stopped, ListAt, listAt, holding, ListHeld, heldAs}
+use Rattle.smf.specs.Lists.{stopped, ListAt, listAt, Reader, nextAt, holding, ListHeld, heldAs}
 use Rattle.smf.proofs.ListPlaces.{list-invalid}
-use Rattle.event.specs.Event.{eventOf, eventRead}
-use Rattle.event.specs.declared.track_event.TrackEvent.{TrackEvent}
-use Rattle.event.specs.declared.read.ReadEvent.{ReadEvent}
-use Rattle.event.specs.declared.read.ReadEvent.the-variants as read
-use Rattle.event.specs.declared.read.EventAt.{EventAt}
+use Rattle.smf.proofs.Steps.{readerAt}
+use Rattle.event.specs.Event.{eventOf}
+use Rattle.track.specs.List.{recordOf}
+use Rattle.track.specs.declared.list.Record.{Record}
+use Rattle.track.specs.Cursor.{stopOf, readerOf, nextOf}
+use Rattle.track.specs.declared.cursor.Next.{Next}
+use Rattle.track.specs.declared.cursor.Next.the-variants as next
+use Rattle.track.specs.declared.cursor.NextEvent.{NextEvent}
+use Rattle.track.specs.declared.cursor.Stop.{Stop}
 use Rattle.track.specs.Read.{listRead}
 use Rattle.track.specs.declared.read.ReadList.{ReadList}
 use Rattle.track.proofs.Held.{Holds, holds-none, holds-more}
-use Rattle.track.proofs.Reading.{Sofar, Answered, begun, again}
+use Rattle.track.proofs.Reading.{Sofar, begun, all, took, again}
 
-pub record Filling (cap : ℕ) (rules : Rules) (s : List ℕ) (at first : ℕ) (xs : List TrackEvent) (place status n : ℕ) : Type 0 where
+pub record Filling (cap : ℕ) (rules : Rules) (s : List ℕ) (at first : ℕ) (xs : List Record) (r : Reader) : Type 0 where
   pub events : List (smf.Event Span)
-  pub held : Holds cap xs n events
-  pub sofar : Sofar cap rules s at first events place status n
+  pub held : Holds cap xs (r .count) events
+  pub sofar : Sofar cap rules s at first events r
 
-module _ (cap : ℕ) (rules : Rules) (s : List ℕ) (at first : ℕ) where
+module _ (cap : ℕ) (rules : Rules) (s : List ℕ) (at first : ℕ) (xs : List Record) (n : ℕ) (e : Holds cap xs n []) where
   pub invalid : isRunning first ≡ false
-      → record { list = holding cap []; stop = stopped 1; place = at; running = first } ≡ heldAs cap (listAt rules cap first s at)
-  invalid v = rw (list-invalid rules cap first s at v)
+      → record { list = record { records = map recordOf xs; count = 0 }; stop = stopped 1; place = at; running = first } ≡ heldAs cap (listAt rules cap first s at)
+  invalid v = rw (list-invalid rules cap first s at v, holds-none cap xs n e)
 
-  pub filling-first : (xs : List TrackEvent) (n : ℕ) → Holds cap xs n [] → isRunning first ≡ true → Filling cap rules s at first xs at first 0
-  filling-first xs n e v = record { events = []; held = holds-none cap xs n e; sofar = begun cap rules s at first v }
+  pub filling-first : isRunning first ≡ true → Filling cap rules s at first xs (readerAt at first)
+  filling-first v = record { events = []; held = holds-none cap xs n e; sofar = begun cap rules s at first v }
 
-module _ {cap : ℕ} {rules : Rules} {s : List ℕ} {at first : ℕ} {xs : List TrackEvent} {place status n : ℕ} (h : Filling cap rules s at first xs place status n) where
-  -- the answer, where the list of the events so far is all
-  pub filled : (stop : Stop) → Answered cap rules s at first (h .events) stop place status
-      → record { list = record { records = map eventOf xs; count = n }; stop = stop; place = place; running = status } ≡ heldAs cap (listAt rules cap first s at)
-  filled stop q = rw (q, ← h .held)
+module _ {cap : ℕ} {rules : Rules} {s : List ℕ} {at first : ℕ} {xs : List Record} {r : Reader} (h : Filling cap rules s at first xs r) (n : Next) (there : nextOf n ≡ nextAt rules cap s r) where
+  -- the answer, where the step stops
+  pub filled : (why : Stop) → n ≡ next.Stop why
+      → record { list = record { records = map recordOf xs; count = r .count }; stop = stopOf why; place = r .place; running = r .running } ≡ heldAs cap (listAt rules cap first s at)
+  filled why e = rw (all (h .sofar) n there why e, ← h .held)
 
-  pub filling-more : (r : ReadEvent) → eventRead r ≡ smf.eventAt rules status s place → (a : EventAt) → r ≡ read.Event a → n < cap
-      → Filling cap rules s at first (set xs n (a .event)) (place + a .used) (a .running .status) (n + 1)
-  filling-more r there a e room =
+  pub filling-more : (step : NextEvent) → n ≡ next.Event step → (x : Record) → recordOf x ≡ eventOf (step .event) → Filling cap rules s at first (set xs (r .count) x) (readerOf (step .cursor))
+  filling-more step e x kept =
+      let own = eventOf (step .event) in
+      let t = took (h .sofar) n there step e in
+      let more : Holds cap (set xs (r .count) x) (r .count + 1) (h .events ++ (own ∷ [])) = rw kept at (holds-more cap xs (r .count) (h .events) x (t .room) (h .held)) in
       record {
-        events = h .events ++ (eventOf (a .event) ∷ []);
-        held = holds-more cap xs n (h .events) (a .event) room (h .held);
-        sofar = again (h .sofar) r there a e room;
+        events = h .events ++ (own ∷ []);
+        held = subst (λ (k : ℕ). Holds cap (set xs (r .count) x) k (h .events ++ (own ∷ []))) (sym (t .counted)) more;
+        sofar = again (h .sofar) n there step e;
       }
 
 -- a list that was read counts its events

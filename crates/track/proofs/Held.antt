@@ -8,15 +8,14 @@ use lib.Seq.{set-at}
 use Rattle.smf.specs.Place.{Span}
 use Rattle.smf.specs.Event.{Event}
 use Rattle.smf.specs.Lists.{filler, Held, holding}
-use Rattle.event.specs.Event.{eventOf}
-use Rattle.event.specs.declared.track_event.TrackEvent.{TrackEvent}
-use Rattle.event.specs.declared.track_event.TrackEventKind.the-variants as track
+use Rattle.event.specs.declared.TrackEventKind.the-variants as track
 use Rattle.midi.specs.declared.MidiMessage.the-variants as midi
-use Rattle.track.specs.List.{capacity}
+use Rattle.track.specs.List.{capacity, recordOf}
+use Rattle.track.specs.declared.list.Record.{Record}
 
 -- what stands past the end of an array
-abbrev pub past : TrackEvent
-past = record { delta = record { 0 = 0 }; kind = track.Midi (record { 0 = 0 }) (midi.NoteOff (record { 0 = 0 }) (record { 0 = 0 })) }
+abbrev pub past : Record
+past = record { event = record { delta = record { 0 = 0 }; kind = track.Midi (record { 0 = 0 }) (midi.NoteOff (record { 0 = 0 }) (record { 0 = 0 })) } }
 
 -- one element changed, and then each taken, or the other way round
 pub map-set : {A B : Type 0} (f : A → B) (l : List A) (i : ℕ) (a : A) → map f (set l i a) ≡ set (map f l) i (f a)
@@ -33,30 +32,30 @@ pub unmapped : {A B : Type 0} (f : A → B) (l : List A) (n : ℕ) → length (m
 unmapped f l n p = sym (length-map l f) ∙ p
 
 -- an empty list
-pub made : (e : TrackEvent) → eventOf e ≡ filler → record { records = map eventOf (replicate capacity e); count = 0 } ≡ holding capacity []
+pub made : (e : Record) → recordOf e ≡ filler → record { records = map recordOf (replicate capacity e); count = 0 } ≡ holding capacity []
 unfolding holding
-made e f = rw (map-replicate eventOf capacity e, f)
+made e f = rw (map-replicate recordOf capacity e, f)
 
 -- records of which n count hold these events, and the filler behind them
-abbrev pub Holds : ℕ → List TrackEvent → ℕ → List (Event Span) → Type 0
-Holds cap xs n es = record { records = map eventOf xs; count = n } ≡ holding cap es
+abbrev pub Holds : ℕ → List Record → ℕ → List (Event Span) → Type 0
+Holds cap xs n es = record { records = map recordOf xs; count = n } ≡ holding cap es
 
 -- none of them counts
-pub holds-none : (cap : ℕ) (xs : List TrackEvent) (n : ℕ) → Holds cap xs n [] → Holds cap xs 0 []
+pub holds-none : (cap : ℕ) (xs : List Record) (n : ℕ) → Holds cap xs n [] → Holds cap xs 0 []
 unfolding holding
 holds-none cap xs n h = let none : n ≡ 0 = ap (λ (l : Held). l .count) h in rw none at h
 
 -- one event more
-pub holds-more : (cap : ℕ) (xs : List TrackEvent) (n : ℕ) (es : List (Event Span)) (e : TrackEvent) → n < cap → Holds cap xs n es → Holds cap (set xs n e) (n + 1) (es ++ (eventOf e ∷ []))
+pub holds-more : (cap : ℕ) (xs : List Record) (n : ℕ) (es : List (Event Span)) (e : Record) → n < cap → Holds cap xs n es → Holds cap (set xs n e) (n + 1) (es ++ (recordOf e ∷ []))
 unfolding holding
 holds-more cap xs n es e room h =
-    let own = eventOf e ∷ [] in
+    let own = recordOf e ∷ [] in
     let counted : length es ≡ n = sym (ap (λ (l : Held). l .count) h) in
     let count : length (es ++ own) ≡ n + 1 = length-append es own ∙ omega arith in
     let left : cap - length es ≡ suc (cap - (n + 1)) = omega arith in
     let rest = replicate (cap - (n + 1)) filler in
-    let there : map eventOf xs ≡ es ++ (filler ∷ rest) = ap (λ (l : Held). l .records) h ∙ ap (λ (k : ℕ). es ++ replicate k filler) left in
-    let records : map eventOf (set xs n e) ≡ (es ++ own) ++ rest =
-    map-set eventOf xs n e ∙ ap (λ (l : List (Event Span)). set l n (eventOf e)) there ∙ set-at es filler rest (eventOf e) n counted ∙ sym (append-assoc es own rest)
+    let there : map recordOf xs ≡ es ++ (filler ∷ rest) = ap (λ (l : Held). l .records) h ∙ ap (λ (k : ℕ). es ++ replicate k filler) left in
+    let records : map recordOf (set xs n e) ≡ (es ++ own) ++ rest =
+    map-set recordOf xs n e ∙ ap (λ (l : List (Event Span)). set l n (recordOf e)) there ∙ set-at es filler rest (recordOf e) n counted ∙ sym (append-assoc es own rest)
     in
     rw (count, records)

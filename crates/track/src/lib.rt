@@ -1,3 +1,5 @@
 // Module 7 of document 01: lists of events.
+pub mod cursor;
 pub mod list;
 pub mod read;
+mod record;

@@ -1,29 +1,22 @@
 // A list of events: so many records, and how many of them count. Those past the count are delta 0, `EndOfTrack`.
 ghost use mathlib.Core.Path.{_≡_};
 ghost use mathlib.Core.List.{[]};
-ghost use Rattle.smf.specs.Lists.{filler, holding};
-ghost use Rattle.event.specs.Event.{eventOf};
+ghost use Rattle.smf.specs.Lists.{holding};
 ghost use Rattle.track.specs.List.{capacity, heldOf};
-use event::track_event::TrackEvent;
-use event::track_event::TrackEventKind;
-use meta::MetaMessage;
-use number::varlen::u28;
+use crate::record::filler;
+use event::TrackEvent;
 
 // How many events a list holds.
 pub const CAPACITY: usize = 128;
 
-pub struct EventList {
-    pub records: [TrackEvent; CAPACITY],
-    pub count: usize,
+// A record of a list: the event that it holds. Whatever else is told of an event in its list joins it here.
+pub struct Record {
+    pub event: TrackEvent,
 }
 
-fn filler() -> TrackEvent
-    ensures { λ r. ⌜ eventOf r ≡ filler ⌝ }
-{
-    TrackEvent {
-        delta: u28(0),
-        kind: TrackEventKind::Meta(MetaMessage::EndOfTrack),
-    }
+pub struct EventList {
+    pub records: [Record; CAPACITY],
+    pub count: usize,
 }
 
 impl EventList {

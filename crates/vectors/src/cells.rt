@@ -1,5 +1,7 @@
 // Numbers and bytes of a line, taken out and put in.
 use crate::line::CELLS;
+use rows::WIDTH;
+use track::list::CAPACITY;
 
 // The most bytes that a line has, given or written.
 pub const BYTES: usize = 1024;
@@ -7,8 +9,8 @@ pub const BYTES: usize = 1024;
 // The rules of a call that a line gives none for: no bit is set, and none would be looked at.
 pub const NO_RULES: u8 = 0;
 
-// The cells of a list's rows: 128 of ten.
-pub const ROWS: usize = 1280;
+// The cells of a full list's rows.
+pub const ROWS: usize = CAPACITY * WIDTH;
 
 pub fn byte(n: u64) -> u8 {
     (n % 256) as u8
@@ -46,23 +48,21 @@ pub fn part(cells: &[u64], from: usize, to: usize) -> &[u64] {
     &cells[end..]
 }
 
-// Ten numbers, from one on.
-pub fn row(cells: &[u64], from: usize) -> [u64; 10] {
-    if CELLS <= from {
-        return [0; 10];
+// A row's numbers, from one on; 0 where there are none.
+pub fn row(cells: &[u64], from: usize) -> [u64; WIDTH] {
+    let mut row = [0u64; WIDTH];
+    let mut i: usize = 0;
+    while i < WIDTH {
+        if cells.len() <= from {
+            return row;
+        }
+        if cells.len() - from <= i {
+            return row;
+        }
+        row[i] = cells[from + i];
+        i += 1;
     }
-    [
-        number(cells, from),
-        number(cells, from + 1),
-        number(cells, from + 2),
-        number(cells, from + 3),
-        number(cells, from + 4),
-        number(cells, from + 5),
-        number(cells, from + 6),
-        number(cells, from + 7),
-        number(cells, from + 8),
-        number(cells, from + 9),
-    ]
+    row
 }
 
 // Numbers as bytes, and how many they are.
@@ -93,12 +93,27 @@ pub fn put_bytes(bytes: &[u8], found: &mut [u64; CELLS], at: usize) -> usize {
     count
 }
 
+// A row put behind the first numbers of an answer. How many numbers there are then.
+pub fn put_row(row: [u64; WIDTH], found: &mut [u64; CELLS], at: usize) -> usize {
+    let mut end = at;
+    let mut i: usize = 0;
+    while i < WIDTH {
+        if CELLS <= end {
+            return end;
+        }
+        found[end] = row[i];
+        end += 1;
+        i += 1;
+    }
+    end
+}
+
 // Rows put behind the first numbers of an answer. How many numbers there are then.
 pub fn put_rows(rows: &[u64; ROWS], count: usize, found: &mut [u64; CELLS], at: usize) -> usize {
     let mut end = at;
     let mut i: usize = 0;
     while i < ROWS {
-        if count <= i / 10 {
+        if count <= i / WIDTH {
             return end;
         }
         if CELLS <= end {

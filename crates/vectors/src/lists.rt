@@ -3,13 +3,13 @@ use crate::text::decimal;
 use crate::text::refused;
 use crate::text::show_first;
 use crate::text::word;
-use compose::WroteList;
-use compose::write_list;
-use rules::Rules;
-use rules::Running;
+use base::Rules;
+use base::Running;
+use track::cursor::Stop;
 use track::list::EventList;
 use track::read::ReadList;
-use track::read::Stop;
+use write::answer::WroteList;
+use write::records::write_list;
 
 // The most bytes that a list is written into.
 const MOST: usize = 64;

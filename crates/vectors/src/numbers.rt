@@ -2,10 +2,10 @@
 use crate::text::refused;
 use crate::text::show_first;
 use crate::text::word;
+use base::Rules;
+use number::u28;
 use number::varlen::ReadNumber;
-use number::varlen::Written;
-use number::varlen::u28;
-use rules::Rules;
+use number::varlen::WroteNumber;
 
 const NUMBERS: [u32; 12] = [
     0x0000_0000,
@@ -50,8 +50,8 @@ fn line(v: u32) {
     let mut out = [0u8; 4];
     io::print_hex(1, v as u64, 8);
     match u28(v).write_varlen(&mut out, 0) {
-        Written::Next(n) => written(&out, n),
-        Written::Refused(refusal) => refused(refusal.number()),
+        WroteNumber::Next(n) => written(&out, n),
+        WroteNumber::Refused(refusal) => refused(refusal.number()),
     }
     word(b"\n");
 }

@@ -5,26 +5,28 @@ use crate::cells::ROWS;
 use crate::cells::number;
 use crate::cells::number_byte;
 use crate::cells::place;
+use crate::cells::put_row;
 use crate::cells::put_rows;
 use crate::cells::row;
 use crate::cells::wide;
 use crate::line::CELLS;
-use loader::apk_number_read;
-use loader::apk_payload_read;
-use loader_events::apk_event_read;
-use loader_header::apk_format_encode;
-use loader_header::apk_format_read;
-use loader_header::apk_timing_encode;
-use loader_header::apk_timing_read;
-use loader_lists::read::apk_list_read;
-use loader_same::apk_event_same;
-use loader_smpte::apk_fps_as_code;
-use loader_smpte::apk_fps_from_code;
-use loader_smpte::apk_fps_from_int;
-use loader_smpte::apk_smpte_encode;
-use loader_smpte::apk_smpte_new;
-use loader_smpte::apk_smpte_position;
-use loader_smpte::apk_smpte_read;
+use loader::fields::apk_format_encode;
+use loader::fields::apk_format_read;
+use loader::fields::apk_timing_encode;
+use loader::fields::apk_timing_read;
+use loader::numbers::apk_number_read;
+use loader::numbers::apk_payload_read;
+use loader::smpte::apk_fps_as_code;
+use loader::smpte::apk_fps_from_code;
+use loader::smpte::apk_fps_from_int;
+use loader::smpte::apk_smpte_encode;
+use loader::smpte::apk_smpte_new;
+use loader::smpte::apk_smpte_position;
+use loader::smpte::apk_smpte_read;
+use loader_track::events::apk_event_read;
+use loader_track::list_read::apk_list_read;
+use loader_track::sameness::apk_event_same;
+use rows::WIDTH;
 
 // Rules, place.
 fn number_read(given: &[u64], bytes: &[u8], found: &mut [u64; CELLS]) -> usize {
@@ -58,22 +60,9 @@ fn payload_read(given: &[u64], bytes: &[u8], found: &mut [u64; CELLS]) -> usize 
     3
 }
 
-fn put_row(row: [u64; 10], found: &mut [u64; CELLS]) {
-    found[3] = row[0];
-    found[4] = row[1];
-    found[5] = row[2];
-    found[6] = row[3];
-    found[7] = row[4];
-    found[8] = row[5];
-    found[9] = row[6];
-    found[10] = row[7];
-    found[11] = row[8];
-    found[12] = row[9];
-}
-
 // Rules, running status, place. The row is answered where it is accepted.
 fn event_read(given: &[u64], bytes: &[u8], found: &mut [u64; CELLS]) -> usize {
-    let mut row = [0xA5u64; 10];
+    let mut row = [0xA5u64; WIDTH];
     let mut used: usize = 0xA5;
     let mut after: u8 = 0xA5;
     let answer = apk_event_read(
@@ -89,8 +78,7 @@ fn event_read(given: &[u64], bytes: &[u8], found: &mut [u64; CELLS]) -> usize {
     found[1] = used as u64;
     found[2] = wide(after);
     if answer == 0 {
-        put_row(row, found);
-        return 13;
+        return put_row(row, found, 3);
     }
     3
 }
@@ -124,13 +112,16 @@ fn events_same(given: &[u64], bytes: &[u8], found: &mut [u64; CELLS]) -> usize {
     if bytes.len() < middle {
         return 0;
     }
+    let mut same: u8 = 0xA5;
     found[0] = wide(apk_event_same(
         &row(given, 1),
         &bytes[start..middle],
-        &row(given, 11),
+        &row(given, 1 + WIDTH),
         &bytes[middle..],
+        &mut same,
     ));
-    1
+    found[1] = wide(same);
+    2
 }
 
 fn format_read(bytes: &[u8], found: &mut [u64; CELLS]) -> usize {

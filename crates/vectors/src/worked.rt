@@ -5,11 +5,11 @@ use crate::text::decimal;
 use crate::text::refused;
 use crate::text::show;
 use crate::text::word;
+use base::Rules;
+use base::Running;
+use event::TrackEvent;
 use event::read::ReadEvent;
-use event::track_event::TrackEvent;
-use loader_header::apk_timing_read;
-use rules::Rules;
-use rules::Running;
+use loader::fields::apk_timing_read;
 
 // The listing's two events.
 const TWO: [u8; 7] = [0x00, 0x90, 0x3C, 0x40, 0x60, 0x3C, 0x00];

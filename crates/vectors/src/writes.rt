@@ -8,13 +8,13 @@ use crate::cells::put_bytes;
 use crate::cells::row;
 use crate::cells::wide;
 use crate::line::CELLS;
-use loader::apk_number_length;
-use loader::apk_number_write;
-use loader::apk_payload_write;
-use loader_events::apk_event_length;
-use loader_events::apk_event_write;
-use loader_lists::write::apk_list_length;
-use loader_lists::write::apk_list_write;
+use loader::numbers::apk_number_length;
+use loader::numbers::apk_number_write;
+use loader::numbers::apk_payload_write;
+use loader_track::events::apk_event_length;
+use loader_track::events::apk_event_write;
+use loader_track::list_write::apk_list_length;
+use loader_track::list_write::apk_list_write;
 
 // Room, place, value.
 fn number_written(given: &[u64], out: &mut [u8], found: &mut [u64; CELLS]) -> usize {

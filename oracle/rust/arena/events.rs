@@ -7,6 +7,7 @@ use super::{
     refusal,
     report::{Bytes, Entry},
     shrink,
+    sizes::{Row, WIDTH},
     strings::Strings,
 };
 use crate::{
@@ -172,7 +173,7 @@ fn told(bytes: &[u8], at: usize, running: u8) -> String {
 
 // ---- what the Rust answers
 
-type Answer = (u8, (Option<[u64; 10]>, usize, u8));
+type Answer = (u8, (Option<Row>, usize, u8));
 
 fn rust(bytes: &[u8], at: usize, running: u8) -> Answer {
     let mut left = if at <= bytes.len() { &bytes[at..] } else { &[] };
@@ -185,17 +186,17 @@ fn rust(bytes: &[u8], at: usize, running: u8) -> Answer {
 }
 
 /// An event as a row of numbers, its payload by its place in the bytes.
-pub fn row(event: &TrackEvent, bytes: &[u8]) -> [u64; 10] {
-    let mut row = [0u64; 10];
+pub fn row(event: &TrackEvent, bytes: &[u8]) -> Row {
+    let mut row = [0u64; WIDTH];
     row[0] = event.delta.as_int() as u64;
     let at = |p: &[u8]| (p.as_ptr() as usize - bytes.as_ptr() as usize) as u64;
-    let mut load = |row: &mut [u64; 10], kind: u64, a: u64, p: &[u8]| {
+    let mut load = |row: &mut Row, kind: u64, a: u64, p: &[u8]| {
         row[1] = kind;
         row[2] = a;
         row[8] = at(p);
         row[9] = p.len() as u64;
     };
-    let set = |row: &mut [u64; 10], kind: u64, fields: &[u64]| {
+    let set = |row: &mut Row, kind: u64, fields: &[u64]| {
         row[1] = kind;
         row[2..2 + fields.len()].copy_from_slice(fields);
     };

@@ -1,6 +1,6 @@
 //! Events of every kind, legal and at random, as the Rust has them; and which rows document 01 lets be written.
 
-use super::random::Random;
+use super::{random::Random, sizes::Row};
 use crate::{
     event::{MetaMessage, MidiMessage, PitchBend, TrackEvent, TrackEventKind},
     prelude::*,
@@ -117,7 +117,7 @@ fn unnamed(length: usize, random: &mut Random) -> u8 {
 // ---- document 01's rule
 
 /// By which number a row's event may not be written, 0 where it may: 1, then 18, 19, 22, 23. The room comes after.
-pub fn refused(row: &[u64; 10], bytes: usize, running: u8) -> u8 {
+pub fn refused(row: &Row, bytes: usize, running: u8) -> u8 {
     if running != 0 && !(0x80..=0xEF).contains(&running) {
         return 1;
     }
@@ -140,13 +140,13 @@ pub fn refused(row: &[u64; 10], bytes: usize, running: u8) -> u8 {
 }
 
 /// Whether a row's kind carries a payload.
-pub fn is_loaded(row: &[u64; 10]) -> bool {
+pub fn is_loaded(row: &Row) -> bool {
     matches!(row[1], 0xF0 | 0xF7 | 0x101..=0x109 | 0x17F | 0x200)
 }
 
 /// Whether each field that the kind uses is within its width, or an SMPTE time within its ranges. No kind has any
 /// other number.
-fn fits(row: &[u64; 10]) -> bool {
+fn fits(row: &Row) -> bool {
     let [a, b, c, d, e, rate] = [row[2], row[3], row[4], row[5], row[6], row[7]];
     match row[1] {
         8..=11 => a < 16 && b < 128 && c < 128,
@@ -177,7 +177,7 @@ fn is_named(kind: u64, length: u64) -> bool {
 }
 
 /// How many of the six fields a row's kind uses.
-pub fn used(row: &[u64; 10]) -> usize {
+pub fn used(row: &Row) -> usize {
     match row[1] {
         8..=11 => 3,
         12..=14 | 0x159 => 2,

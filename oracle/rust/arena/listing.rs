@@ -5,6 +5,7 @@ use super::{
     random::Random,
     refusal,
     report::{Bytes, Entry},
+    sizes::CAPACITY,
 };
 use crate::{
     event::{MetaMessage, MidiMessage, TrackEvent, TrackEventKind},
@@ -16,9 +17,8 @@ use std::{
     process::{Command, Stdio},
 };
 
-/// The most bytes that are listed, and the most events.
+/// The most bytes that are listed.
 const LONGEST: usize = 65_536;
-const CAPACITY: usize = 128;
 
 const STATUSES: [u8; 12] = [0x80, 0x93, 0xA0, 0xBF, 0xC1, 0xD2, 0xE0, 0xF0, 0xF7, 0xFF, 0xFF, 0xFF];
 const REFUSED: [u8; 4] = [0xF1, 0xF6, 0xF8, 0xFE];

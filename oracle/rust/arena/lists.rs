@@ -5,16 +5,20 @@ use super::{
     events, kinds, listing,
     port::{self, Laid, Sheet},
     random::Random,
-    reads::{Reads, Rows, CAPACITY, CELL, HOW, WIDTH},
+    reads::{Reads, Rows, CELL, HOW},
     refusal,
     report::{Bytes, Entry},
     shrink,
+    sizes::{Row, CAPACITY, WIDTH},
     strings::Strings,
 };
 use crate::{event::TrackEvent, io::Cursor, prelude::*};
 
 /// Around none, around what a list holds and twice that.
-const COUNTS: [usize; 14] = [0, 1, 2, 3, 126, 127, 128, 129, 130, 254, 255, 256, 257, 300];
+const COUNTS: [usize; 14] = [
+    0, 1, 2, 3, CAPACITY - 2, CAPACITY - 1, CAPACITY, CAPACITY + 1, CAPACITY + 2, 2 * CAPACITY - 2, 2 * CAPACITY - 1,
+    2 * CAPACITY, 2 * CAPACITY + 1, 300,
+];
 /// Around the ends of the fields' widths, and of the integers that hold them.
 const FIELDS: [u64; 14] =
     [15, 16, 24, 31, 60, 100, 127, 128, 255, 256, 65_536, 0x100_0000, 0x1_0000_0000, u64::MAX];
@@ -80,7 +84,7 @@ impl Lists {
         };
         let pool: Vec<u8> = (0..POOL).map(|_| random.byte()).collect();
         let lent: Vec<u8> = (0..OUT).map(|i| (i * 37) as u8).collect();
-        let refused = &[1, 18, 19, 20, 21, 23];
+        let refused = &[1, 18, 19, 21, 23];
         Lists {
             strings: Strings::new(&mut random),
             random,
@@ -93,8 +97,8 @@ impl Lists {
             back: Entry::new("apk_list_read, of what was written", &[0]).counting(&HOW).counting(&kinds::KINDS),
             illegal: Entry::new("apk_list_write, refused (by document 01's rule)", refused),
             illegal_length: Entry::new("apk_list_length, refused (by document 01's rule)", refused),
-            same: Entry::new("apk_list_same", &[0, 20, 21]).of_kinds(&["the same", "not the same"]),
-            events_same: Entry::new("apk_event_same", &[0]).of_kinds(&["the same", "not the same"]),
+            same: Entry::new("apk_list_same", &[0, 18, 21]).of_kinds(&["the same", "not the same"]),
+            events_same: Entry::new("apk_event_same", &[0, 18]).of_kinds(&["the same", "not the same"]),
             pool: pool.leak(),
             bytes: Vec::new(),
             list: List::default(),
@@ -193,7 +197,7 @@ impl Lists {
 
     /// Every running status that is none, of lists that are right, and of lists that are wrong in other ways too.
     fn no_running_status(&mut self, running: u8) {
-        for &count in [0, 1, 3, 128, 129].iter() {
+        for &count in [0, 1, 3, CAPACITY, CAPACITY + 1].iter() {
             let list = self.list(0, count.min(CAPACITY));
             self.refused(Sheet { count, ..list.sheet(0) }, running, 40);
             let bytes = [0, 0x90, 0x3C, 0x40, 0x60, 0x3C, 0];
@@ -258,7 +262,7 @@ impl Lists {
     }
 
     /// Makes what a row's kind does not use anything.
-    fn soil(&mut self, row: &mut [u64; WIDTH]) {
+    fn soil(&mut self, row: &mut Row) {
         if self.random.below(8) > 0 {
             return;
         }
@@ -331,7 +335,7 @@ impl Lists {
         }
         self.lists_same(list, &other.events, other.sheet(0));
         let short = self.random.below(other.sheet(0).rows.len() + 1);
-        let count = self.random.of(&[0, 1, 2, 127, 128, 129, usize::MAX]);
+        let count = self.random.of(&[0, 1, 2, CAPACITY - 1, CAPACITY, CAPACITY + 1, usize::MAX]);
         self.none_same(list, Sheet { rows: &other.rows[..short], count, payload: other.payload });
         self.other = other;
     }
@@ -449,7 +453,11 @@ impl Lists {
         let rust = (list.events[at] == other.events[at]) as u8;
         self.events_same.of_kind(1 - rust as usize);
         let port = port::event_same(&a, list.payload, &b, other.payload);
-        self.events_same.compare((0, rust), (0, port), 1, || format!("rows {:X?} and {:X?}", a, b));
+        self.events_same.compare((0, rust), port, 1, || format!("rows {:X?} and {:X?}", a, b));
+        let none = [0; WIDTH];
+        let other = self.random.of(&[a, none]);
+        let port = port::event_same(&other, list.payload, &none, list.payload);
+        self.events_same.compare((18, 0xFF), port, 1, || format!("rows {:X?} and {:X?}", other, none));
     }
 
     fn lists_same(&mut self, list: &List, others: &[TrackEvent], other: Sheet) {
@@ -457,18 +465,21 @@ impl Lists {
         self.same.of_kind(1 - rust as usize);
         let there = port::list_same(list.sheet(0), other);
         let back = port::list_same(other, list.sheet(0));
-        self.same.compare((0, (rust, rust)), (0, (there, back)), list.events.len(), || told(other, 0));
+        let port = (there.0.max(back.0), (there, back));
+        self.same.compare((0, ((0, rust), (0, rust))), port, list.events.len(), || told(other, 0));
     }
 
-    /// A sheet that is no list is like none, on either side.
+    /// A sheet that is no list is refused, on either side: for its count, or for a row that is not all there.
     fn none_same(&mut self, list: &List, other: Sheet) {
-        let number = no_list(other);
-        if number == 0 {
-            return;
-        }
+        let number = match other.count {
+            count if count > CAPACITY => 21,
+            count if other.rows.len() < WIDTH * count => 18,
+            _ => return,
+        };
         let there = port::list_same(list.sheet(0), other);
         let back = port::list_same(other, list.sheet(0));
-        self.same.compare((number, (number, number)), (there, (there, back)), list.events.len(), || told(other, 0));
+        let wanted = (number, ((number, 0xFF), (number, 0xFF)));
+        self.same.compare(wanted, (there.0.max(back.0), (there, back)), list.events.len(), || told(other, 0));
     }
 }
 
@@ -497,27 +508,19 @@ fn rust_writes(list: &List, out: &mut [u8], lent: &[u8]) -> (u8, Laid) {
     (number, (None, list.running, Some(0)))
 }
 
-/// 21 where the count is above what a list holds, 20 where the cells are too few for it.
-fn no_list(sheet: Sheet) -> u8 {
-    if sheet.count > CAPACITY {
-        return 21;
-    }
-    if sheet.rows.len() < sheet.count * WIDTH {
-        return 20;
-    }
-    0
-}
-
-/// The number and the index: 1, then what is no list, then the first illegal event.
+/// The number and the index: 1, 21 where the count is above what a list holds, then the first illegal event; a row whose
+/// cells are not all there is no event's, 18.
 fn refused(sheet: Sheet, running: u8) -> (u8, usize) {
     if running != 0 && !(0x80..=0xEF).contains(&running) {
         return (1, 0);
     }
-    let number = no_list(sheet);
-    if number > 0 {
-        return (number, 0);
+    if sheet.count > CAPACITY {
+        return (21, 0);
     }
     for index in 0..sheet.count {
+        if sheet.rows.len() < WIDTH * (index + 1) {
+            return (18, index);
+        }
         let mut row = [0; WIDTH];
         row.copy_from_slice(&sheet.rows[WIDTH * index..WIDTH * (index + 1)]);
         let number = kinds::refused(&row, sheet.payload.len(), 0);

@@ -1,6 +1,8 @@
 //! The port's exported entries. A slice goes over as its start and its length; the answer is a refusal's number, or
 //! 0. Beside the answer stands each value that an entry is to set: `None` where it left the value as it was.
 
+use super::sizes::{Row, WIDTH};
+
 // An answer of eight or 16 bits is declared as 32 and cut. The port's code leaves the bits above it as they come, and
 // Rust on x86-64 would take them for zeros.
 extern "C" {
@@ -18,19 +20,19 @@ extern "C" {
     ) -> u32;
     fn apk_event_read(
         bytes: *const u8, length: usize, at: usize, running: u8, rules: u8,
-        row: *mut [u64; 10], used: *mut usize, after: *mut u8,
+        row: *mut Row, used: *mut usize, after: *mut u8,
     ) -> u32;
     fn apk_event_length(
-        row: *const [u64; 10], payload: *const u8, payload_length: usize, running: u8, rules: u8,
+        row: *const Row, payload: *const u8, payload_length: usize, running: u8, rules: u8,
         length: *mut usize, after: *mut u8,
     ) -> u32;
     fn apk_event_write(
-        row: *const [u64; 10], payload: *const u8, payload_length: usize, running: u8, rules: u8,
+        row: *const Row, payload: *const u8, payload_length: usize, running: u8, rules: u8,
         out: *mut u8, out_length: usize, at: usize, next: *mut usize, after: *mut u8,
     ) -> u32;
     fn apk_event_same(
-        row_a: *const [u64; 10], bytes_a: *const u8, length_a: usize,
-        row_b: *const [u64; 10], bytes_b: *const u8, length_b: usize,
+        row_a: *const Row, bytes_a: *const u8, length_a: usize,
+        row_b: *const Row, bytes_b: *const u8, length_b: usize, same: *mut u8,
     ) -> u32;
     fn apk_list_read(
         bytes: *const u8, length: usize, at: usize, running: u8, rules: u8,
@@ -48,7 +50,7 @@ extern "C" {
     ) -> u32;
     fn apk_list_same(
         rows_a: *const u64, cells_a: usize, count_a: usize, bytes_a: *const u8, length_a: usize,
-        rows_b: *const u64, cells_b: usize, count_b: usize, bytes_b: *const u8, length_b: usize,
+        rows_b: *const u64, cells_b: usize, count_b: usize, bytes_b: *const u8, length_b: usize, same: *mut u8,
     ) -> u32;
     fn apk_format_read(bytes: *const u8, length: usize, format: *mut u8) -> u32;
     fn apk_format_encode(format: u8, bytes: *mut [u8; 2]) -> u32;
@@ -250,10 +252,10 @@ pub fn bend_as_f64(raw: u16) -> (u8, u64) {
 }
 
 /// What a row holds before a call. No event is this.
-const ROW: [u64; 10] = [u64::MAX; 10];
+const ROW: Row = [u64::MAX; WIDTH];
 
 /// The answer, and the row, the bytes used and the running status after.
-pub fn event_read(bytes: &[u8], at: usize, running: u8) -> (u8, (Option<[u64; 10]>, usize, u8)) {
+pub fn event_read(bytes: &[u8], at: usize, running: u8) -> (u8, (Option<Row>, usize, u8)) {
     let (mut row, mut used, mut after) = (ROW, BEFORE, 0xFF);
     let answer = unsafe {
         apk_event_read(bytes.as_ptr(), bytes.len(), at, running, RULES, &mut row, &mut used, &mut after)
@@ -262,7 +264,7 @@ pub fn event_read(bytes: &[u8], at: usize, running: u8) -> (u8, (Option<[u64; 10
 }
 
 /// The answer, and the length and the running status after.
-pub fn event_length(row: &[u64; 10], payload: &[u8], running: u8) -> (u8, (Option<usize>, Option<u8>)) {
+pub fn event_length(row: &Row, payload: &[u8], running: u8) -> (u8, (Option<usize>, Option<u8>)) {
     let (mut length, mut after) = (BEFORE, 0xFF);
     let answer =
         unsafe { apk_event_length(row, payload.as_ptr(), payload.len(), running, RULES, &mut length, &mut after) };
@@ -271,7 +273,7 @@ pub fn event_length(row: &[u64; 10], payload: &[u8], running: u8) -> (u8, (Optio
 
 /// The answer, and the place after and the running status after, which is the one given where it is refused.
 pub fn event_write(
-    row: &[u64; 10], payload: &[u8], running: u8, out: &mut [u8], at: usize,
+    row: &Row, payload: &[u8], running: u8, out: &mut [u8], at: usize,
 ) -> (u8, (Option<usize>, u8)) {
     let (mut next, mut after) = (BEFORE, 0xFF);
     let answer = unsafe {
@@ -283,9 +285,13 @@ pub fn event_write(
     (answer as u8, (set(next), after))
 }
 
-/// 1 where two events are the same, else 0.
-pub fn event_same(a: &[u64; 10], bytes_a: &[u8], b: &[u64; 10], bytes_b: &[u8]) -> u8 {
-    unsafe { apk_event_same(a, bytes_a.as_ptr(), bytes_a.len(), b, bytes_b.as_ptr(), bytes_b.len()) as u8 }
+/// The answer, and 1 where two events are the same, else 0; it holds 0xFF before.
+pub fn event_same(a: &Row, bytes_a: &[u8], b: &Row, bytes_b: &[u8]) -> (u8, u8) {
+    let mut same = 0xFF;
+    let answer = unsafe {
+        apk_event_same(a, bytes_a.as_ptr(), bytes_a.len(), b, bytes_b.as_ptr(), bytes_b.len(), &mut same)
+    };
+    (answer as u8, same)
 }
 
 /// The answer, and the count, the place and the running status there, which holds 0xFF before.
@@ -335,12 +341,14 @@ pub fn list_write(sheet: Sheet, running: u8, out: &mut [u8]) -> (u8, Laid) {
     (answer as u8, (set(length), after, set(index)))
 }
 
-/// 1 where two lists are the same, else 0; 20 or 21 where one is none.
-pub fn list_same(a: Sheet, b: Sheet) -> u8 {
-    unsafe {
+/// The answer, and 1 where two lists are the same, else 0; it holds 0xFF before.
+pub fn list_same(a: Sheet, b: Sheet) -> (u8, u8) {
+    let mut same = 0xFF;
+    let answer = unsafe {
         apk_list_same(
             a.rows.as_ptr(), a.rows.len(), a.count, a.payload.as_ptr(), a.payload.len(),
-            b.rows.as_ptr(), b.rows.len(), b.count, b.payload.as_ptr(), b.payload.len(),
-        ) as u8
-    }
+            b.rows.as_ptr(), b.rows.len(), b.count, b.payload.as_ptr(), b.payload.len(), &mut same,
+        )
+    };
+    (answer as u8, same)
 }

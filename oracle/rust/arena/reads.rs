@@ -8,12 +8,10 @@ use super::{
     refusal,
     report::{Bytes, Entry},
     shrink,
+    sizes::{CAPACITY, WIDTH},
 };
 use crate::{event::TrackEvent, prelude::*};
 
-/// How many events a list holds, and how many cells a row has.
-pub const CAPACITY: usize = 128;
-pub const WIDTH: usize = 10;
 /// What a cell holds before a call. No event's row has it.
 pub const CELL: u64 = u64::MAX - 0x5A5A;
 /// Why the port stopped reading: so many events, and bytes left.

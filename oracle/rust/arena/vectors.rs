@@ -4,7 +4,10 @@
 //! hexadecimal and each behind a blank. A value that the port is to set holds A5 before the call, and so does each byte
 //! of a lent buffer. Nothing here is random, so that the lines are the same from run to run.
 
-use super::{events, kinds, refusal};
+use super::{
+    events, kinds, refusal,
+    sizes::{Row, CAPACITY, WIDTH},
+};
 use crate::{
     event::TrackEvent,
     io::{Cursor, CursorError},
@@ -16,7 +19,6 @@ use std::collections::BTreeSet;
 const STRICT: bool = cfg!(feature = "strict");
 const MODE: &str = if STRICT { "strict" } else { "lenient" };
 const HELD: u64 = 0xA5;
-const CAPACITY: usize = 128;
 const FULL: u64 = 255;
 
 /// The ends of seven and eight bits, and a byte that goes on.
@@ -264,7 +266,7 @@ impl Lines {
             self.list_read(&[], 0, *running);
         }
         (126..=130).for_each(|count| self.list_read(&programs(count), 0, 0x00));
-        self.list_read(&[&programs(128)[..], &[0x00, 0xF8]].concat(), 0, 0x00);
+        self.list_read(&[&programs(CAPACITY)[..], &[0x00, 0xF8]].concat(), 0, 0x00);
         self.list_read(&[&programs(127)[..], &[0x00, 0xF8]].concat(), 0, 0x00);
         self.list_read(&programs(300), 257, 0xC0);
     }
@@ -321,7 +323,7 @@ impl Lines {
         group("events that may not be written");
         for bytes in &EVENTS {
             let row = events::row(&TrackEvent::read(&mut &bytes[..], &mut None).unwrap(), bytes);
-            for cell in (0..10).filter(|cell| *cell != 1) {
+            for cell in (0..WIDTH).filter(|cell| *cell != 1) {
                 let spoilt = |value: u64| {
                     let mut other = row;
                     other[cell] = value;
@@ -353,7 +355,7 @@ impl Lines {
         lists.extend(EVENTS.iter().map(|bytes| [*bytes, *bytes].concat()));
         lists.push(vec![]);
         lists.push(TWO.to_vec());
-        lists.extend([127, 128].iter().map(|count| programs(*count)));
+        lists.extend([CAPACITY - 1, CAPACITY].iter().map(|count| programs(*count)));
         for bytes in &lists {
             let list = all_events(bytes);
             for running in &[0x00, 0x90] {
@@ -373,7 +375,7 @@ impl Lines {
     fn illegal_lists(&mut self) {
         group("lists that may not be written");
         let bytes = EVENTS[14..22].concat();
-        let rows: Vec<[u64; 10]> = all_events(&bytes).iter().map(|event| events::row(event, &bytes)).collect();
+        let rows: Vec<Row> = all_events(&bytes).iter().map(|event| events::row(event, &bytes)).collect();
         for at in 0..rows.len() {
             for (cell, value) in &[(0, 1 << 28), (1, 0x1FF), (2, 256), (9, bytes.len() as u64), (1, 0x200)] {
                 let mut other = rows.clone();
@@ -384,12 +386,13 @@ impl Lines {
                 self.illegal_list(&other, rows.len(), &bytes, 0x7F);
             }
         }
-        for count in &[9, 128, 129, 1 << 32, usize::MAX] {
+        for count in &[9, CAPACITY, CAPACITY + 1, 1 << 32, usize::MAX] {
             [0x00, 0x90, 0x7F, 0xF0].iter().for_each(|running| self.illegal_list(&rows, *count, &bytes, *running));
         }
     }
 
-    /// Every two of some events: the same ones at other places, with other deltas, other kinds and other payloads.
+    /// Every two of some events: the same ones at other places, with other deltas, other kinds and other payloads; and
+    /// rows that are no events'.
     fn events_same(&mut self) {
         group("two events, the same or not");
         let some: [&[u8]; 14] = [
@@ -403,8 +406,14 @@ impl Lines {
             for b in &some {
                 let (x, y) = (all_events(a)[0], all_events(b)[0]);
                 let given = [&[a.len() as u64][..], &events::row(&x, a), &events::row(&y, b)].concat();
-                line('a', &given, &[*a, *b].concat(), &[(x == y) as u64]);
+                line('a', &given, &[*a, *b].concat(), &[0, (x == y) as u64]);
             }
+        }
+        let (a, none) = (some[0], [0; 10]);
+        let row = events::row(&all_events(a)[0], a);
+        for (x, y) in &[(row, none), (none, row), (none, none)] {
+            let given = [&[a.len() as u64][..], x, y].concat();
+            line('a', &given, &[a, a].concat(), &[18, 0xA5]);
         }
     }
 
@@ -520,7 +529,7 @@ impl Lines {
                 why = 1;
                 break;
             }
-            if rows.len() == 10 * CAPACITY {
+            if rows.len() == WIDTH * CAPACITY {
                 why = FULL;
                 break;
             }
@@ -537,7 +546,7 @@ impl Lines {
         }
         self.numbers.insert(why);
         let place = (at + (whole - left.len())) as u64;
-        let mut answer = vec![why, (rows.len() / 10) as u64, place, status.unwrap_or(0) as u64];
+        let mut answer = vec![why, (rows.len() / WIDTH) as u64, place, status.unwrap_or(0) as u64];
         answer.extend(rows);
         line('l', &[STRICT as u64, running as u64, at as u64], bytes, &answer);
     }
@@ -577,7 +586,7 @@ impl Lines {
     }
 
     /// One that may be written all the same is let go: the Rust's types hold no row.
-    fn illegal(&mut self, row: &[u64; 10], bytes: &[u8], running: u8, room: usize) {
+    fn illegal(&mut self, row: &Row, bytes: &[u8], running: u8, room: usize) {
         let number = kinds::refused(row, bytes.len(), running) as u64;
         if number == 0 {
             return;
@@ -599,18 +608,18 @@ impl Lines {
             number => [number, HELD, running as u64, 0],
         };
         let answer = [&[0, length, after, HELD], &told[..], &written.bytes].concat();
-        let rows: Vec<[u64; 10]> = list.iter().map(|event| events::row(event, bytes)).collect();
+        let rows: Vec<Row> = list.iter().map(|event| events::row(event, bytes)).collect();
         line('L', &[&[room as u64, running as u64, list.len() as u64], &rows.concat()[..]].concat(), bytes, &answer);
     }
 
-    /// 1, then 21, then 20 where the cells are too few, then the first event that may not be written.
-    fn illegal_list(&mut self, rows: &[[u64; 10]], count: usize, bytes: &[u8], running: u8) {
+    /// 1, then 21, then the first event that may not be written; a row whose cells are not there is no event's, 18.
+    fn illegal_list(&mut self, rows: &[Row], count: usize, bytes: &[u8], running: u8) {
         let numbers = rows.iter().take(count).map(|row| kinds::refused(row, bytes.len(), 0) as u64);
         let (index, number) = match numbers.enumerate().find(|number| number.1 > 0) {
             _ if !is_running(running) => (0, 1),
             _ if count > CAPACITY => (0, 21),
-            _ if count > rows.len() => (0, 20),
             Some(first) => first,
+            None if count > rows.len() => (rows.len(), 18),
             None => return,
         };
         self.numbers.insert(number);

@@ -5,6 +5,7 @@ use super::{
     random::Random,
     refusal,
     report::{Bytes, Entry},
+    sizes::Row,
 };
 use crate::{
     event::{MetaMessage, TrackEvent, TrackEventKind},
@@ -72,7 +73,7 @@ pub fn run(mut random: Random, full: bool) -> Vec<Entry> {
 #[derive(Clone, Copy)]
 struct Given {
     event: TrackEvent<'static>,
-    row: [u64; 10],
+    row: Row,
     payload: &'static [u8],
     running: u8,
 }
@@ -110,7 +111,7 @@ impl Writing {
     }
 
     /// Makes what a row's kind does not use anything, and a flag that is 1 any number that is not 0.
-    fn soil(&mut self, row: &mut [u64; 10]) {
+    fn soil(&mut self, row: &mut Row) {
         if self.random.below(4) > 0 {
             return;
         }

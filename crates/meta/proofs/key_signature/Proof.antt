@@ -5,7 +5,7 @@ use denote.Ref.{now}
 use mir.Syntax.{w8}
 use mir.Facts.{toZ-ofZ}
 use Rattle.smf.proofs.CalledAt.{called-key, called-short-key}
-use Rattle.rules.specs.Rules.{rulesOf}
+use Rattle.base.specs.Rules.{rulesOf}
 use Rattle.meta.specs.Meta.{spanOf}
 use borrow.Author.Needs.{needs}
 use Rattle.meta.proofs.key_signature.Statement.{statement}
@@ -13,21 +13,6 @@ use Rattle.meta.proofs.key_signature.Tie as tie
 
 returns : tie.Need-returns
 returns c = called-short-key (rulesOf (c .before .before .before .args .rules)) (now (c .before .before .before .args .raw)) (λ i. c .before .before .shared-slice-known .given i .fits) (spanOf (c .before .before .before .args .load)) (c .before .before .before .pre) (c .if1 .taken)
-
-shared-slice-read-from-byte : tie.Need-shared-slice-read-from-byte
-shared-slice-read-from-byte c = search needs
-
-from-byte-requires : tie.Need-from-byte-requires
-from-byte-requires c κs = search needs
-
-add-minor : tie.Need-add-minor
-add-minor c = search needs
-
-shared-slice-read-minor : tie.Need-shared-slice-read-minor
-shared-slice-read-minor c = search needs
-
-message-requires : tie.Need-message-requires
-message-requires c κs = search needs
 
 returns-2 : tie.Need-returns-2
 returns-2 c = c .message .ensures ∙ rw (toZ-ofZ {w = w8} (record { sfits = c .before .before .from-byte .ok }), c .before .before .from-byte .ensures) (called-key (rulesOf (c .before .before .before .before .before .before .before .args .rules)) (now (c .before .before .before .before .before .before .before .args .raw)) (λ i. c .before .before .before .before .before .before .shared-slice-known .given i .fits) (spanOf (c .before .before .before .before .before .before .before .args .load)) (c .before .before .before .before .before .before .before .pre) (c .before .before .before .before .if1 .left))
@@ -37,9 +22,9 @@ key-signature-spec =
     tie.close
     (tie.spec
     returns
-    shared-slice-read-from-byte
-    from-byte-requires
-    add-minor
-    shared-slice-read-minor
-    message-requires
+    (λ c. search needs)
+    (λ c κs. search needs)
+    (λ c. search needs)
+    (λ c. search needs)
+    (λ c κs. search needs)
     returns-2)

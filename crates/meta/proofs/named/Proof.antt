@@ -5,29 +5,17 @@ use denote.Ref.{now}
 use Rattle.smf.specs.Kind.{endOfTrack, sequencerSpecific, unknown}
 use Rattle.smf.specs.Event.{mapMeta}
 use Rattle.smf.proofs.CalledAt.{form-number, form-end, form-sequencer, form-unknown, called-is, called-text}
-use Rattle.rules.specs.Rules.{rulesOf}
+use Rattle.base.specs.Rules.{rulesOf}
 use Rattle.meta.specs.Meta.{spanOf}
 use Rattle.meta.specs.Narrow.{channel, port}
 use borrow.Author.Needs.{needs}
 use Rattle.meta.proofs.named.Statement.{statement}
 use Rattle.meta.proofs.named.Tie as tie
 
-track-number-requires : tie.Need-track-number-requires
-track-number-requires c κs = search needs
-
-message-requires : tie.Need-message-requires
-message-requires c κs = search needs
-
 returns : tie.Need-returns
 returns c =
     let s = c .before .before .before .before in
     c .message .ensures ∙ rw (c .before .before .if1 .taken, c .before .track-number .ensures) (called-is (rulesOf (s .args .rules)) (now (s .args .raw)) (λ i. c .before .before .before .shared-slice-known .given i .fits) (spanOf (s .args .load)) (s .pre) 0x00 _ (form-number _ _))
-
-text-requires : tie.Need-text-requires
-text-requires c κs = search needs
-
-message-requires-2 : tie.Need-message-requires-2
-message-requires-2 c κs = search needs
 
 returns-2 : tie.Need-returns-2
 returns-2 c =
@@ -39,27 +27,6 @@ narrow-requires c κs = (c .before .before .before .before .pre, channel)
 
 narrow-requires-2 : tie.Need-narrow-requires-2
 narrow-requires-2 c κs = (c .before .before .before .before .pre, port)
-
-message-requires-3 : tie.Need-message-requires-3
-message-requires-3 c κs = search needs
-
-tempo-requires : tie.Need-tempo-requires
-tempo-requires c κs = search needs
-
-smpte-offset-requires : tie.Need-smpte-offset-requires
-smpte-offset-requires c κs = search needs
-
-time-signature-requires : tie.Need-time-signature-requires
-time-signature-requires c κs = search needs
-
-key-signature-requires : tie.Need-key-signature-requires
-key-signature-requires c κs = search needs
-
-message-requires-4 : tie.Need-message-requires-4
-message-requires-4 c κs = search needs
-
-message-requires-5 : tie.Need-message-requires-5
-message-requires-5 c κs = search needs
 
 returns-3 : tie.Need-returns-3
 returns-3 c = c .narrow .ensures ∙ rw (c .before .match .keys1)
@@ -102,21 +69,21 @@ pub named-spec : {M : Type 1} → statement M
 named-spec =
     tie.close
     (tie.spec
-    track-number-requires
-    message-requires
+    (λ c κs. search needs)
+    (λ c κs. search needs)
     returns
-    text-requires
-    message-requires-2
+    (λ c κs. search needs)
+    (λ c κs. search needs)
     returns-2
     narrow-requires
     narrow-requires-2
-    message-requires-3
-    tempo-requires
-    smpte-offset-requires
-    time-signature-requires
-    key-signature-requires
-    message-requires-4
-    message-requires-5
+    (λ c κs. search needs)
+    (λ c κs. search needs)
+    (λ c κs. search needs)
+    (λ c κs. search needs)
+    (λ c κs. search needs)
+    (λ c κs. search needs)
+    (λ c κs. search needs)
     returns-3
     returns-4
     returns-5

@@ -11,7 +11,7 @@ use Rattle.smf.specs.Place.{Span}
 use Rattle.smf.specs.Kind.{Meta, midiChannel, midiPort}
 use Rattle.smf.specs.Event.{mapMeta}
 use Rattle.smf.proofs.CalledAt.{short, fits-low, fits-lenient, fits-strict}
-use Rattle.rules.specs.Rules.{rulesOf}
+use Rattle.base.specs.Rules.{rulesOf}
 use Rattle.meta.specs.Meta.{spanOf}
 use Rattle.meta.proofs.Limits.{form-narrow, limit-some}
 use borrow.Author.Needs.{needs}
@@ -24,23 +24,11 @@ unfolding mapMeta
 kept span true n = refl
 kept span false n = refl
 
-message-requires : tie.Need-message-requires
-message-requires c κs = search needs
-
 returns : tie.Need-returns
 unfolding mapMeta
 returns c =
     let s = c .before .before .before .before in
     c .message .ensures ∙ short (rulesOf (s .args .rules)) (now (s .args .raw)) (λ i. c .before .before .before .shared-slice-known .given i .fits) (spanOf (s .args .load)) (s .pre .0) (s .args .type-byte) 1 _ (form-narrow (s .pre .1) _ _) (c .before .if1 .taken)
-
-shared-slice-read-byte : tie.Need-shared-slice-read-byte
-shared-slice-read-byte c = search needs
-
-narrow-kind-requires : tie.Need-narrow-kind-requires
-narrow-kind-requires c κs = search needs
-
-message-requires-2 : tie.Need-message-requires-2
-message-requires-2 c κs = search needs
 
 returns-2 : tie.Need-returns-2
 returns-2 c =
@@ -59,12 +47,6 @@ returns-3 c =
 rem-narrow-kind : tie.Need-rem-narrow-kind
 rem-narrow-kind c = omega (arith, limit-some (c .before .before .before .before .before .before .pre .1))
 
-narrow-kind-requires-2 : tie.Need-narrow-kind-requires-2
-narrow-kind-requires-2 c κs = search needs
-
-message-requires-3 : tie.Need-message-requires-3
-message-requires-3 c κs = search needs
-
 returns-4 : tie.Need-returns-4
 returns-4 c =
     let s = c .before .before .before .before .before .before .before .before in
@@ -77,14 +59,14 @@ pub narrow-spec : {M : Type 1} → statement M
 narrow-spec =
     tie.close
     (tie.spec
-    message-requires
+    (λ c κs. search needs)
     returns
-    shared-slice-read-byte
-    narrow-kind-requires
-    message-requires-2
+    (λ c. search needs)
+    (λ c κs. search needs)
+    (λ c κs. search needs)
     returns-2
     returns-3
     rem-narrow-kind
-    narrow-kind-requires-2
-    message-requires-3
+    (λ c κs. search needs)
+    (λ c κs. search needs)
     returns-4)

@@ -4,50 +4,23 @@ use native.Mathlib.Omega.{arith}
 use denote.Ref.{now}
 use Rattle.smf.specs.Kind.{tempo}
 use Rattle.smf.proofs.CalledAt.{form-tempo, short, called-tempo}
-use Rattle.rules.specs.Rules.{rulesOf}
+use Rattle.base.specs.Rules.{rulesOf}
 use Rattle.meta.specs.Meta.{spanOf}
 use borrow.Author.Needs.{needs}
 use Rattle.meta.proofs.tempo.Statement.{statement}
 use Rattle.meta.proofs.tempo.Tie as tie
 
-message-requires : tie.Need-message-requires
-message-requires c κs = search needs
-
 returns : tie.Need-returns
 returns c = c .message .ensures ∙ short (rulesOf (c .before .before .before .before .args .rules)) (now (c .before .before .before .before .args .raw)) (λ i. c .before .before .before .shared-slice-known .given i .fits) (spanOf (c .before .before .before .before .args .load)) (c .before .before .before .before .pre) 0x51 3 _ (form-tempo _ _) (c .before .if1 .taken)
 
-shared-slice-read-high : tie.Need-shared-slice-read-high
-shared-slice-read-high c = search needs
-
 cast-high : tie.Need-cast-high
 cast-high c = omega (arith, c .shared-slice-known2 .given (c .before .before .before .before .args .load .start))
-
-add-word : tie.Need-add-word
-add-word c = search needs
-
-shared-slice-read-word : tie.Need-shared-slice-read-word
-shared-slice-read-word c = search needs
-
-add-word-2 : tie.Need-add-word-2
-add-word-2 c = search needs
-
-shared-slice-read-word-2 : tie.Need-shared-slice-read-word-2
-shared-slice-read-word-2 c = search needs
-
-word-requires : tie.Need-word-requires
-word-requires c κs = search needs
-
-cast-low : tie.Need-cast-low
-cast-low c = search needs
 
 mul-t17 : tie.Need-mul-t17
 mul-t17 c = record { fits = omega (arith, c .before .before .before .shared-slice-known2 .given (c .before .before .before .before .before .before .before .args .load .start)) }
 
 add-t18 : tie.Need-add-t18
 add-t18 c = record { fits = omega (arith, c .before .before .before .shared-slice-known2 .given (c .before .before .before .before .before .before .before .args .load .start), c .word .ok) }
-
-message-requires-2 : tie.Need-message-requires-2
-message-requires-2 c κs = search needs
 
 returns-2 : tie.Need-returns-2
 returns-2 c = c .message2 .ensures ∙ rw (c .before .word .ensures) (called-tempo (rulesOf (c .before .before .before .before .before .before .before .before .args .rules)) (now (c .before .before .before .before .before .before .before .before .args .raw)) (λ i. c .before .before .before .before .before .before .before .shared-slice-known .given i .fits) (spanOf (c .before .before .before .before .before .before .before .before .args .load)) (c .before .before .before .before .before .before .before .before .pre) (c .before .before .before .before .before .if1 .left))
@@ -56,17 +29,17 @@ pub tempo-spec : {M : Type 1} → statement M
 tempo-spec =
     tie.close
     (tie.spec
-    message-requires
+    (λ c κs. search needs)
     returns
-    shared-slice-read-high
+    (λ c. search needs)
     cast-high
-    add-word
-    shared-slice-read-word
-    add-word-2
-    shared-slice-read-word-2
-    word-requires
-    cast-low
+    (λ c. search needs)
+    (λ c. search needs)
+    (λ c. search needs)
+    (λ c. search needs)
+    (λ c κs. search needs)
+    (λ c. search needs)
     mul-t17
     add-t18
-    message-requires-2
+    (λ c κs. search needs)
     returns-2)

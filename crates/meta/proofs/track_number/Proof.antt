@@ -9,18 +9,6 @@ use borrow.Author.Needs.{needs}
 use Rattle.meta.proofs.track_number.Statement.{statement}
 use Rattle.meta.proofs.track_number.Tie as tie
 
-shared-slice-read-word : tie.Need-shared-slice-read-word
-shared-slice-read-word c = search needs
-
-add-word : tie.Need-add-word
-add-word c = search needs
-
-shared-slice-read-word-2 : tie.Need-shared-slice-read-word-2
-shared-slice-read-word-2 c = search needs
-
-word-requires : tie.Need-word-requires
-word-requires c κs = search needs
-
 returns : tie.Need-returns
 returns c = rw (c .word .ensures) (called-number (record { strict = true }) (now (c .before .before .before .before .before .before .args .raw)) (λ i. c .before .before .before .before .before .shared-slice-known .given i .fits) (spanOf (c .before .before .before .before .before .before .args .load)) (c .before .before .before .before .before .before .pre) (c .before .before .before .if1 .taken))
 
@@ -31,9 +19,9 @@ pub track-number-spec : {M : Type 1} → statement M
 track-number-spec =
     tie.close
     (tie.spec
-    shared-slice-read-word
-    add-word
-    shared-slice-read-word-2
-    word-requires
+    (λ c. search needs)
+    (λ c. search needs)
+    (λ c. search needs)
+    (λ c κs. search needs)
     returns
     returns-2)

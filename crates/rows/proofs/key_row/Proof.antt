@@ -5,20 +5,8 @@ use borrow.Author.Needs.{needs}
 use Rattle.rows.proofs.key_row.Statement.{statement}
 use Rattle.rows.proofs.key_row.Tie as tie
 
-to-byte-requires : tie.Need-to-byte-requires
-to-byte-requires c κs = search needs
-
-bytes-requires : tie.Need-bytes-requires
-bytes-requires c κs = search needs
-
 returns : tie.Need-returns
 returns c = rw (c .before .before .if1 .taken) (c .bytes .ensures ∙ rw (c .before .to-byte .ensures, toZ-ofZ (c .before .before .before .fits .sharps)))
-
-to-byte-requires-2 : tie.Need-to-byte-requires-2
-to-byte-requires-2 c κs = search needs
-
-bytes-requires-2 : tie.Need-bytes-requires-2
-bytes-requires-2 c κs = search needs
 
 returns-2 : tie.Need-returns-2
 returns-2 c = rw (c .before .before .if1 .left) (c .bytes2 .ensures ∙ rw (c .before .to-byte2 .ensures, toZ-ofZ (c .before .before .before .fits .sharps)))
@@ -27,9 +15,9 @@ pub key-row-spec : {M : Type 1} → statement M
 key-row-spec =
     tie.close
     (tie.spec
-    to-byte-requires
-    bytes-requires
+    (λ c κs. search needs)
+    (λ c κs. search needs)
     returns
-    to-byte-requires-2
-    bytes-requires-2
+    (λ c κs. search needs)
+    (λ c κs. search needs)
     returns-2)

@@ -7,120 +7,6 @@ use borrow.Author.Needs.{needs}
 use Rattle.rows.proofs.meta_row.Statement.{statement}
 use Rattle.rows.proofs.meta_row.Tie as tie
 
-enum-known-message : tie.Need-enum-known-message
-enum-known-message c = search needs
-
-number-row-requires : tie.Need-number-row-requires
-number-row-requires c κs = search needs
-
-enum-known-message-2 : tie.Need-enum-known-message-2
-enum-known-message-2 c = search needs
-
-loaded-requires : tie.Need-loaded-requires
-loaded-requires c κs = search needs
-
-enum-known-message-3 : tie.Need-enum-known-message-3
-enum-known-message-3 c = search needs
-
-loaded-requires-2 : tie.Need-loaded-requires-2
-loaded-requires-2 c κs = search needs
-
-enum-known-message-4 : tie.Need-enum-known-message-4
-enum-known-message-4 c = search needs
-
-loaded-requires-3 : tie.Need-loaded-requires-3
-loaded-requires-3 c κs = search needs
-
-enum-known-message-5 : tie.Need-enum-known-message-5
-enum-known-message-5 c = search needs
-
-loaded-requires-4 : tie.Need-loaded-requires-4
-loaded-requires-4 c κs = search needs
-
-enum-known-message-6 : tie.Need-enum-known-message-6
-enum-known-message-6 c = search needs
-
-loaded-requires-5 : tie.Need-loaded-requires-5
-loaded-requires-5 c κs = search needs
-
-enum-known-message-7 : tie.Need-enum-known-message-7
-enum-known-message-7 c = search needs
-
-loaded-requires-6 : tie.Need-loaded-requires-6
-loaded-requires-6 c κs = search needs
-
-enum-known-message-8 : tie.Need-enum-known-message-8
-enum-known-message-8 c = search needs
-
-loaded-requires-7 : tie.Need-loaded-requires-7
-loaded-requires-7 c κs = search needs
-
-enum-known-message-9 : tie.Need-enum-known-message-9
-enum-known-message-9 c = search needs
-
-loaded-requires-8 : tie.Need-loaded-requires-8
-loaded-requires-8 c κs = search needs
-
-enum-known-message-10 : tie.Need-enum-known-message-10
-enum-known-message-10 c = search needs
-
-loaded-requires-9 : tie.Need-loaded-requires-9
-loaded-requires-9 c κs = search needs
-
-enum-known-message-11 : tie.Need-enum-known-message-11
-enum-known-message-11 c = search needs
-
-bytes-requires : tie.Need-bytes-requires
-bytes-requires c κs = search needs
-
-enum-known-message-12 : tie.Need-enum-known-message-12
-enum-known-message-12 c = search needs
-
-bytes-requires-2 : tie.Need-bytes-requires-2
-bytes-requires-2 c κs = search needs
-
-enum-told : tie.Need-enum-told
-enum-told c = search needs
-
-bytes-requires-3 : tie.Need-bytes-requires-3
-bytes-requires-3 c κs = search needs
-
-enum-known-message-13 : tie.Need-enum-known-message-13
-enum-known-message-13 c = search needs
-
-fields-requires : tie.Need-fields-requires
-fields-requires c κs = search needs
-
-enum-known-message-14 : tie.Need-enum-known-message-14
-enum-known-message-14 c = search needs
-
-time-row-requires : tie.Need-time-row-requires
-time-row-requires c κs = search needs
-
-enum-known-message-15 : tie.Need-enum-known-message-15
-enum-known-message-15 c = search needs
-
-bytes-requires-4 : tie.Need-bytes-requires-4
-bytes-requires-4 c κs = search needs
-
-enum-known-message-16 : tie.Need-enum-known-message-16
-enum-known-message-16 c = search needs
-
-key-row-requires : tie.Need-key-row-requires
-key-row-requires c κs = search needs
-
-enum-known-message-17 : tie.Need-enum-known-message-17
-enum-known-message-17 c = search needs
-
-loaded-requires-10 : tie.Need-loaded-requires-10
-loaded-requires-10 c κs = search needs
-
-enum-known-message-18 : tie.Need-enum-known-message-18
-enum-known-message-18 c = search needs
-
-loaded-requires-11 : tie.Need-loaded-requires-11
-loaded-requires-11 c κs = search needs
-
 returns : tie.Need-returns
 returns c = rw (c .before .before .message .given .1) (c .number-row .ensures)
 
@@ -184,44 +70,44 @@ pub meta-row-spec : {M : Type 1} → statement M
 meta-row-spec =
     tie.close
     (tie.spec
-    enum-known-message
-    number-row-requires
-    enum-known-message-2
-    loaded-requires
-    enum-known-message-3
-    loaded-requires-2
-    enum-known-message-4
-    loaded-requires-3
-    enum-known-message-5
-    loaded-requires-4
-    enum-known-message-6
-    loaded-requires-5
-    enum-known-message-7
-    loaded-requires-6
-    enum-known-message-8
-    loaded-requires-7
-    enum-known-message-9
-    loaded-requires-8
-    enum-known-message-10
-    loaded-requires-9
-    enum-known-message-11
-    bytes-requires
-    enum-known-message-12
-    bytes-requires-2
-    enum-told
-    bytes-requires-3
-    enum-known-message-13
-    fields-requires
-    enum-known-message-14
-    time-row-requires
-    enum-known-message-15
-    bytes-requires-4
-    enum-known-message-16
-    key-row-requires
-    enum-known-message-17
-    loaded-requires-10
-    enum-known-message-18
-    loaded-requires-11
+    (λ c. search needs)
+    (λ c κs. search needs)
+    (λ c. search needs)
+    (λ c κs. search needs)
+    (λ c. search needs)
+    (λ c κs. search needs)
+    (λ c. search needs)
+    (λ c κs. search needs)
+    (λ c. search needs)
+    (λ c κs. search needs)
+    (λ c. search needs)
+    (λ c κs. search needs)
+    (λ c. search needs)
+    (λ c κs. search needs)
+    (λ c. search needs)
+    (λ c κs. search needs)
+    (λ c. search needs)
+    (λ c κs. search needs)
+    (λ c. search needs)
+    (λ c κs. search needs)
+    (λ c. search needs)
+    (λ c κs. search needs)
+    (λ c. search needs)
+    (λ c κs. search needs)
+    (λ c. search needs)
+    (λ c κs. search needs)
+    (λ c. search needs)
+    (λ c κs. search needs)
+    (λ c. search needs)
+    (λ c κs. search needs)
+    (λ c. search needs)
+    (λ c κs. search needs)
+    (λ c. search needs)
+    (λ c κs. search needs)
+    (λ c. search needs)
+    (λ c κs. search needs)
+    (λ c. search needs)
+    (λ c κs. search needs)
     returns
     returns-2
     returns-3

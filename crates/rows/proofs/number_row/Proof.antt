@@ -3,18 +3,6 @@ use borrow.Author.Needs.{needs}
 use Rattle.rows.proofs.number_row.Statement.{statement}
 use Rattle.rows.proofs.number_row.Tie as tie
 
-enum-known-n : tie.Need-enum-known-n
-enum-known-n c = search needs
-
-fields-requires : tie.Need-fields-requires
-fields-requires c κs = search needs
-
-enum-told : tie.Need-enum-told
-enum-told c = search needs
-
-bytes-requires : tie.Need-bytes-requires
-bytes-requires c κs = search needs
-
 returns : tie.Need-returns
 returns c = rw (c .before .before .n .given .1) (c .fields .ensures)
 
@@ -23,4 +11,4 @@ returns-2 c = rw (c .before .enum-told .given .1) (c .bytes .ensures)
 
 pub number-row-spec : {M : Type 1} → statement M
 number-row-spec =
-    tie.close (tie.spec enum-known-n fields-requires enum-told bytes-requires returns returns-2)
+    tie.close (tie.spec (λ c. search needs) (λ c κs. search needs) (λ c. search needs) (λ c κs. search needs) returns returns-2)

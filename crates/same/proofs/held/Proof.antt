@@ -7,9 +7,6 @@ use Rattle.same.proofs.held.Tie as tie
 returns : tie.Need-returns
 returns c = held-none _ _ _ (c .if1 .taken)
 
-sub-left : tie.Need-sub-left
-sub-left c = search needs
-
 returns-2 : tie.Need-returns-2
 returns-2 c = held-part _ _ _ (c .if2 .taken)
 
@@ -17,4 +14,4 @@ returns-3 : tie.Need-returns-3
 returns-3 c = held-whole _ _ _ (c .if2 .left)
 
 pub held-spec : {M : Type 1} → statement M
-held-spec = tie.close (tie.spec returns sub-left returns-2 returns-3)
+held-spec = tie.close (tie.spec returns (λ c. search needs) returns-2 returns-3)

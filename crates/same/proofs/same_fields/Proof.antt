@@ -1,5 +1,5 @@
 -- `same_fields` meets its contract: the first number that differs tells the lists apart.
-use Rattle.same.proofs.Telling.{last-tells}
+use Rattle.same.proofs.SameTests.{last-tells}
 use Rattle.same.proofs.same_fields.Statement.{statement}
 use Rattle.same.proofs.same_fields.Tie as tie
 

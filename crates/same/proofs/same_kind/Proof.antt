@@ -1,20 +1,8 @@
 -- `same_kind` meets its contract: kinds are the same where the numbers of their rows and the bytes of their payloads agree.
 use borrow.Author.Needs.{needs}
-use Rattle.same.proofs.WayBack.{fields-differ, load-tells}
+use Rattle.same.proofs.RowKinds.{fields-differ, load-tells}
 use Rattle.same.proofs.same_kind.Statement.{statement}
 use Rattle.same.proofs.same_kind.Tie as tie
-
-kind-row-requires : tie.Need-kind-row-requires
-kind-row-requires c κs = search needs
-
-kind-row-requires-2 : tie.Need-kind-row-requires-2
-kind-row-requires-2 c κs = search needs
-
-same-fields-requires : tie.Need-same-fields-requires
-same-fields-requires c κs = search needs
-
-same-load-requires : tie.Need-same-load-requires
-same-load-requires c κs = search needs
 
 returns : tie.Need-returns
 returns c =
@@ -32,9 +20,9 @@ pub same-kind-spec : {M : Type 1} → statement M
 same-kind-spec =
     tie.close
     (tie.spec
-    kind-row-requires
-    kind-row-requires-2
-    same-fields-requires
-    same-load-requires
+    (λ c κs. search needs)
+    (λ c κs. search needs)
+    (λ c κs. search needs)
+    (λ c κs. search needs)
     returns
     returns-2)

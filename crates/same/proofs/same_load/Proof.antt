@@ -6,12 +6,6 @@ use Rattle.same.proofs.Loads.{held-inside, cut-tells}
 use Rattle.same.proofs.same_load.Statement.{statement}
 use Rattle.same.proofs.same_load.Tie as tie
 
-held-requires : tie.Need-held-requires
-held-requires c κs = search needs
-
-held-requires-2 : tie.Need-held-requires-2
-held-requires-2 c κs = search needs
-
 returns : tie.Need-returns
 returns c = λ e. c .if1 .taken (c .before .held2 .ensures ∙ ap length (sym e) ∙ sym (c .before .before .held .ensures))
 
@@ -23,4 +17,4 @@ returns-2 c = cut-tells (c .agree .result) _ _ _ _ _ _ _ _ (c .before .before .b
 
 pub same-load-spec : {M : Type 1} → statement M
 same-load-spec =
-    tie.close (tie.spec held-requires held-requires-2 returns agree-requires returns-2)
+    tie.close (tie.spec (λ c κs. search needs) (λ c κs. search needs) returns agree-requires returns-2)

@@ -6,7 +6,7 @@ use Prim.Native.Nat.{_+_, _<_}
 use lib.ListN.{length}
 use Rattle.smf.specs.Wire.{dataLength}
 use Rattle.smf.proofs.Reading.{channel-length, data-some, data-short, data-top, data-one, data-more, data-second-top, data-two}
-use Rattle.rules.specs.Rules.{rulesOf}
+use Rattle.base.specs.Rules.{rulesOf}
 use borrow.Author.Needs.{needs}
 use Rattle.event.proofs.read.channel.Statement.{statement}
 use Rattle.event.proofs.read.channel.Tie as tie
@@ -19,38 +19,14 @@ len c = c .msg-length .ensures ∙ channel-length (c .before .before .args .stat
 more : (c : tie.Else3) → c .before .before .before .before .before .before .before .args .at + 1 < length (now (c .before .before .before .before .before .before .before .args .raw))
 more c = data-more (rulesOf (c .before .before .before .before .before .before .before .args .rules)) (now (c .before .before .before .before .before .before .before .args .raw)) (c .before .before .before .before .before .before .before .args .begun .start) (c .before .before .before .before .before .before .before .args .at) (c .before .before .before .before .before .before .before .args .status) (c .before .before .before .before .before .before .before .args .begun .delta .0) (c .before .before .before .before .before .before .before .pre .0) (omega (arith, len (c .before .before .before .before .before), c .before .before .before .before .bytes-from .ensures, c .before .before .before .if1 .left)) (λ e. c .if3 .left (len (c .before .before .before .before .before) ∙ e)) (c .before .if2 .left)
 
-msg-length-requires : tie.Need-msg-length-requires
-msg-length-requires c κs = search needs
-
-bytes-from-requires : tie.Need-bytes-from-requires
-bytes-from-requires c κs = search needs
-
-cast-if1 : tie.Need-cast-if1
-cast-if1 c = search needs
-
-refused-requires : tie.Need-refused-requires
-refused-requires c κs = search needs
-
 returns : tie.Need-returns
 returns c = c .refused .ensures ∙ data-short (rulesOf (c .before .before .before .before .before .args .rules)) (now (c .before .before .before .before .before .args .raw)) (c .before .before .before .before .before .args .begun .start) (c .before .before .before .before .before .args .at) (c .before .before .before .before .before .args .status) (c .before .before .before .before .before .args .begun .delta .0) (c .before .before .before .before .before .pre .0) (omega (arith, len (c .before .before .before), c .before .before .bytes-from .ensures, c .before .if1 .taken))
 
 shared-slice-read-first : tie.Need-shared-slice-read-first
 shared-slice-read-first c = omega (arith, len (c .before .before .before), c .before .before .bytes-from .ensures, data-some (c .before .before .before .before .before .args .status))
 
-refused-requires-2 : tie.Need-refused-requires-2
-refused-requires-2 c κs = search needs
-
 returns-2 : tie.Need-returns-2
 returns-2 c = c .refused2 .ensures ∙ data-top (rulesOf (c .before .before .before .before .before .before .before .args .rules)) (now (c .before .before .before .before .before .before .before .args .raw)) (c .before .before .before .before .before .before .before .args .begun .start) (c .before .before .before .before .before .before .before .args .at) (c .before .before .before .before .before .before .before .args .status) (c .before .before .before .before .before .before .before .args .begun .delta .0) (c .before .before .before .before .before .before .before .pre .0) (omega (arith, len (c .before .before .before .before .before), c .before .before .before .before .bytes-from .ensures, c .before .before .before .if1 .left)) (c .before .if2 .taken)
-
-read-requires : tie.Need-read-requires
-read-requires c κs = search needs
-
-add-event : tie.Need-add-event
-add-event c = search needs
-
-event-requires : tie.Need-event-requires
-event-requires c κs = search needs
 
 returns-3 : tie.Need-returns-3
 returns-3 c = c .event .ensures ∙ rw (c .before .read .ensures) (data-one (rulesOf (c .before .before .before .before .before .before .before .before .before .args .rules)) (now (c .before .before .before .before .before .before .before .before .before .args .raw)) (c .before .before .before .before .before .before .before .before .before .args .begun .start) (c .before .before .before .before .before .before .before .before .before .args .at) (c .before .before .before .before .before .before .before .before .before .args .status) (c .before .before .before .before .before .before .before .before .before .args .begun .delta .0) (c .before .before .before .before .before .before .before .before .before .pre .0) 0 (omega (arith, len (c .before .before .before .before .before .before .before), c .before .before .before .before .before .before .bytes-from .ensures, c .before .before .before .before .before .if1 .left)) (sym (len (c .before .before .before .before .before .before .before)) ∙ c .before .before .if3 .taken) (c .before .before .before .if2 .left))
@@ -61,20 +37,11 @@ add-second c = omega (arith, more c)
 shared-slice-read-second : tie.Need-shared-slice-read-second
 shared-slice-read-second c = omega (arith, more (c .before))
 
-refused-requires-3 : tie.Need-refused-requires-3
-refused-requires-3 c κs = search needs
-
 returns-4 : tie.Need-returns-4
 returns-4 c = c .refused3 .ensures ∙ data-second-top (rulesOf (c .before .before .before .before .before .before .before .before .before .before .args .rules)) (now (c .before .before .before .before .before .before .before .before .before .before .args .raw)) (c .before .before .before .before .before .before .before .before .before .before .args .begun .start) (c .before .before .before .before .before .before .before .before .before .before .args .at) (c .before .before .before .before .before .before .before .before .before .before .args .status) (c .before .before .before .before .before .before .before .before .before .before .args .begun .delta .0) (c .before .before .before .before .before .before .before .before .before .before .pre .0) (omega (arith, len (c .before .before .before .before .before .before .before .before), c .before .before .before .before .before .before .before .bytes-from .ensures, c .before .before .before .before .before .before .if1 .left)) (λ e. c .before .before .before .if3 .left (len (c .before .before .before .before .before .before .before .before) ∙ e)) (c .before .before .before .before .if2 .left) (c .before .if4 .taken)
 
-read-requires-2 : tie.Need-read-requires-2
-read-requires-2 c κs = search needs
-
 add-event-2 : tie.Need-add-event-2
 add-event-2 c = omega (arith, more (c .before .before .before))
-
-event-requires-2 : tie.Need-event-requires-2
-event-requires-2 c κs = search needs
 
 returns-5 : tie.Need-returns-5
 returns-5 c = c .event2 .ensures ∙ rw (c .before .read2 .ensures) (data-two (rulesOf (c .before .before .before .before .before .before .before .before .before .before .before .args .rules)) (now (c .before .before .before .before .before .before .before .before .before .before .before .args .raw)) (c .before .before .before .before .before .before .before .before .before .before .before .args .begun .start) (c .before .before .before .before .before .before .before .before .before .before .before .args .at) (c .before .before .before .before .before .before .before .before .before .before .before .args .status) (c .before .before .before .before .before .before .before .before .before .before .before .args .begun .delta .0) (c .before .before .before .before .before .before .before .before .before .before .before .pre .0) (omega (arith, len (c .before .before .before .before .before .before .before .before .before), c .before .before .before .before .before .before .before .before .bytes-from .ensures, c .before .before .before .before .before .before .before .if1 .left)) (λ e. c .before .before .before .before .if3 .left (len (c .before .before .before .before .before .before .before .before .before) ∙ e)) (c .before .before .before .before .before .if2 .left) (c .before .before .if4 .left))
@@ -83,23 +50,23 @@ pub channel-spec : {M : Type 1} → statement M
 channel-spec =
     tie.close
     (tie.spec
-    msg-length-requires
-    bytes-from-requires
-    cast-if1
-    refused-requires
+    (λ c κs. search needs)
+    (λ c κs. search needs)
+    (λ c. search needs)
+    (λ c κs. search needs)
     returns
     shared-slice-read-first
-    refused-requires-2
+    (λ c κs. search needs)
     returns-2
-    read-requires
-    add-event
-    event-requires
+    (λ c κs. search needs)
+    (λ c. search needs)
+    (λ c κs. search needs)
     returns-3
     add-second
     shared-slice-read-second
-    refused-requires-3
+    (λ c κs. search needs)
     returns-4
-    read-requires-2
+    (λ c κs. search needs)
     add-event-2
-    event-requires-2
+    (λ c κs. search needs)
     returns-5)

@@ -8,35 +8,20 @@ use lib.ListN.{drop, getD}
 use Rattle.smf.specs.Event.{placed, nameRaw}
 use Rattle.smf.proofs.Place.{site-next}
 use Rattle.smf.proofs.Reading.{body-missing, body-status, body-none, body-running, running-channel, status-channel}
-use Rattle.rules.specs.Rules.{rulesOf}
+use Rattle.base.specs.Rules.{rulesOf}
 use borrow.Author.Needs.{needs}
 use Rattle.event.proofs.read.kind.Statement.{statement}
 use Rattle.event.proofs.read.kind.Tie as tie
 
-refused-requires : tie.Need-refused-requires
-refused-requires c κs = search needs
-
 returns : tie.Need-returns
 unfolding placed nameRaw
 returns c = c .refused .ensures ∙ rw (body-missing (rulesOf (c .before .before .before .args .rules)) (c .before .before .before .args .running .status) (c .before .before .before .args .begun .delta .0) (now (c .before .before .before .args .raw)) (c .before .before .before .args .at) (c .before .if1 .taken))
-
-shared-slice-read-byte : tie.Need-shared-slice-read-byte
-shared-slice-read-byte c = search needs
-
-add-status-kind : tie.Need-add-status-kind
-add-status-kind c = search needs
 
 status-kind-requires : tie.Need-status-kind-requires
 status-kind-requires c κs = (site-next (now (c .before .before .before .before .args .raw)) (c .before .before .before .before .args .begun .start) (c .before .before .before .before .args .at) (c .before .before .if1 .left) (c .before .before .before .before .pre .0), omega arith, c .if2 .taken)
 
 returns-2 : tie.Need-returns-2
 returns-2 c = c .status-kind .ensures ∙ rw (body-status (rulesOf (c .before .before .before .before .before .args .rules)) (c .before .before .before .before .before .args .running .status) (c .before .before .before .before .before .args .begun .delta .0) (now (c .before .before .before .before .before .args .raw)) (c .before .before .before .before .before .args .at) (c .before .before .before .if1 .left) (omega arith))
-
-add-data : tie.Need-add-data
-add-data c = search needs
-
-refused-requires-2 : tie.Need-refused-requires-2
-refused-requires-2 c κs = search needs
 
 returns-3 : tie.Need-returns-3
 unfolding placed nameRaw
@@ -66,14 +51,14 @@ pub kind-spec : {M : Type 1} → statement M
 kind-spec =
     tie.close
     (tie.spec
-    refused-requires
+    (λ c κs. search needs)
     returns
-    shared-slice-read-byte
-    add-status-kind
+    (λ c. search needs)
+    (λ c. search needs)
     status-kind-requires
     returns-2
-    add-data
-    refused-requires-2
+    (λ c. search needs)
+    (λ c κs. search needs)
     returns-3
     channel-requires
     returns-4)

@@ -5,22 +5,10 @@ use denote.Ref.{now}
 use Rattle.smf.proofs.Answer.{said-of, said-refused}
 use Rattle.smf.proofs.Reading.{Answers, meta-answers}
 use Rattle.meta.specs.Meta.{metaRead}
-use Rattle.rules.specs.Rules.{rulesOf}
+use Rattle.base.specs.Rules.{rulesOf}
 use borrow.Author.Needs.{needs}
 use Rattle.event.proofs.read.meta.Statement.{statement}
 use Rattle.event.proofs.read.meta.Tie as tie
-
-read-requires : tie.Need-read-requires
-read-requires c κs = search needs
-
-enum-known-refusal : tie.Need-enum-known-refusal
-enum-known-refusal c = search needs
-
-refused-requires : tie.Need-refused-requires
-refused-requires c κs = search needs
-
-enum-known-m : tie.Need-enum-known-m
-enum-known-m c = search needs
 
 event-requires : tie.Need-event-requires
 event-requires c κs = said-of (Answers (rulesOf (c .before .before .before .before .before .args .rules)) (now (c .before .before .before .before .before .args .raw)) (c .before .before .before .before .before .args .begun .start) (c .before .before .before .before .before .args .at) (c .before .before .before .before .before .args .begun .delta .0) (c .before .before .before .before .before .pre)) (meta-answers (rulesOf (c .before .before .before .before .before .args .rules)) (now (c .before .before .before .before .before .args .raw)) (c .before .before .before .before .before .args .begun .start) (c .before .before .before .before .before .args .at) (c .before .before .before .before .before .args .begun .delta .0) (c .before .before .before .before .before .pre)) (sym (c .before .before .before .read .ensures) ∙ ap metaRead (c .before .m .given .1)) .1
@@ -35,10 +23,10 @@ pub meta-spec : {M : Type 1} → statement M
 meta-spec =
     tie.close
     (tie.spec
-    read-requires
-    enum-known-refusal
-    refused-requires
-    enum-known-m
+    (λ c κs. search needs)
+    (λ c. search needs)
+    (λ c κs. search needs)
+    (λ c. search needs)
     event-requires
     returns
     returns-2)

@@ -1,59 +1,78 @@
 -- `payload` meets its contract.
 use mathlib.Core.Path.{_≡_, _∙_, sym, ap}
+use Prim.Native.Nat.{_≤_}
 use native.Mathlib.Omega.{arith}
 use denote.Ref.{now}
+use lib.ListN.{length}
 use Rattle.smf.specs.Answer.{gives}
 use Rattle.smf.specs.Place.{payloadAt}
+use Rattle.smf.proofs.MetaAt.{endOf}
 use Rattle.smf.proofs.Reading.{payload-refused, payload-fits, payload-inside, payload-sysEx, payload-escape}
-use Rattle.payload.specs.Payload.{sliceRead}
+use Rattle.number.specs.Payload.{sliceRead}
 use Rattle.meta.specs.Meta.{spanOf}
-use Rattle.rules.specs.Rules.{rulesOf}
+use Rattle.base.specs.Rules.{rulesOf}
 use borrow.Author.Needs.{needs}
 use Rattle.event.proofs.read.payload.Statement.{statement}
 use Rattle.event.proofs.read.payload.Tie as tie
 
 -- what the reader of the payload found
-sliced : (c : tie.After-known-told2) → payloadAt (rulesOf (c .before .before .before .before .before .args .rules)) (now (c .before .before .before .before .before .args .raw)) (c .before .before .before .before .before .args .at) ≡ gives (spanOf (c .before .load .given .0 .0))
+sliced : (c : tie.After-known-told2)
+    → let a = c .before .before .before .before .before .args in payloadAt (rulesOf (a .rules)) (now (a .raw)) (a .at) ≡ gives (spanOf (c .before .load .given .0 .0 .range))
 sliced c = sym (c .before .before .before .read-varlen-slice .ensures) ∙ ap sliceRead (c .before .load .given .1)
 
-read-varlen-slice-requires : tie.Need-read-varlen-slice-requires
-read-varlen-slice-requires c κs = search needs
-
-enum-known-refusal : tie.Need-enum-known-refusal
-enum-known-refusal c = search needs
-
-refused-requires : tie.Need-refused-requires
-refused-requires c κs = search needs
-
-enum-known-load : tie.Need-enum-known-load
-enum-known-load c = search needs
+-- it ends behind the event's beginning, within the bytes
+ends : (c : tie.After-known-told2)
+    → let a = c .before .before .before .before .before .args in
+    (a .begun .start ≤ endOf (spanOf (c .before .load .given .0 .0 .range))) × (endOf (spanOf (c .before .load .given .0 .0 .range)) ≤ length (now (a .raw)))
+ends c =
+    let s = c .before .before .before .before .before in
+    let a = s .args in (
+      payload-fits (rulesOf (a .rules)) (now (a .raw)) (a .begun .start) (a .at) (a .status) (a .begun .delta .0) (s .pre .0) (s .pre .1) (sliced c),
+      payload-inside (rulesOf (a .rules)) (now (a .raw)) (a .begun .start) (a .at) (a .status) (a .begun .delta .0) (s .pre .0) (s .pre .1) (sliced c),
+    )
 
 add-next : tie.Need-add-next
-add-next c = omega (arith, payload-inside (rulesOf (c .before .before .before .before .before .before .args .rules)) (now (c .before .before .before .before .before .before .args .raw)) (c .before .before .before .before .before .before .args .begun .start) (c .before .before .before .before .before .before .args .at) (c .before .before .before .before .before .before .args .status) (c .before .before .before .before .before .before .args .begun .delta .0) (c .before .before .before .before .before .before .pre .0) (c .before .before .before .before .before .before .pre .1) (sliced (c .before)))
+add-next c = omega (arith, ends (c .before .before) .1)
 
 event-requires : tie.Need-event-requires
-event-requires c κs = payload-fits (rulesOf (c .before .before .before .before .before .before .before .args .rules)) (now (c .before .before .before .before .before .before .before .args .raw)) (c .before .before .before .before .before .before .before .args .begun .start) (c .before .before .before .before .before .before .before .args .at) (c .before .before .before .before .before .before .before .args .status) (c .before .before .before .before .before .before .before .args .begun .delta .0) (c .before .before .before .before .before .before .before .pre .0) (c .before .before .before .before .before .before .before .pre .1) (sliced (c .before .before))
+event-requires c κs = ends (c .before .before .before) .0
 
 returns : tie.Need-returns
-returns c = c .event .ensures ∙ payload-sysEx (rulesOf (c .before .before .before .before .before .before .before .before .args .rules)) (now (c .before .before .before .before .before .before .before .before .args .raw)) (c .before .before .before .before .before .before .before .before .args .begun .start) (c .before .before .before .before .before .before .before .before .args .at) (c .before .before .before .before .before .before .before .before .args .status) (c .before .before .before .before .before .before .before .before .args .begun .delta .0) (c .before .before .before .before .before .before .before .before .pre .0) (c .before .before .before .before .before .before .before .before .pre .1) (sliced (c .before .before .before)) (c .before .if1 .taken)
+returns c =
+    let p = c .before .before .before .before in
+    let s = p .before .before .before .before .before in
+    let a = s .args in
+    c .event .ensures
+    ∙ payload-sysEx (rulesOf (a .rules)) (now (a .raw)) (a .begun .start) (a .at) (a .status) (a .begun .delta .0) (s .pre .0) (s .pre .1) (sliced p) (c .before .if1 .taken)
 
 event-requires-2 : tie.Need-event-requires-2
-event-requires-2 c κs = payload-fits (rulesOf (c .before .before .before .before .before .before .before .args .rules)) (now (c .before .before .before .before .before .before .before .args .raw)) (c .before .before .before .before .before .before .before .args .begun .start) (c .before .before .before .before .before .before .before .args .at) (c .before .before .before .before .before .before .before .args .status) (c .before .before .before .before .before .before .before .args .begun .delta .0) (c .before .before .before .before .before .before .before .pre .0) (c .before .before .before .before .before .before .before .pre .1) (sliced (c .before .before))
+event-requires-2 c κs = ends (c .before .before .before) .0
 
 returns-2 : tie.Need-returns-2
-returns-2 c = c .refused .ensures ∙ payload-refused (rulesOf (c .before .before .before .before .before .before .args .rules)) (now (c .before .before .before .before .before .before .args .raw)) (c .before .before .before .before .before .before .args .begun .start) (c .before .before .before .before .before .before .args .at) (c .before .before .before .before .before .before .args .status) (c .before .before .before .before .before .before .args .begun .delta .0) (c .before .before .before .before .before .before .pre .0) (c .before .before .before .before .before .before .pre .1) (sym (c .before .before .before .before .read-varlen-slice .ensures) ∙ ap sliceRead (c .before .before .refusal .given .1))
+returns-2 c =
+    let r = c .before .before .before .before in
+    let s = r .before .before in
+    let a = s .args in
+    c .refused .ensures
+    ∙ payload-refused (rulesOf (a .rules)) (now (a .raw)) (a .begun .start) (a .at) (a .status) (a .begun .delta .0) (s .pre .0) (s .pre .1)
+    (sym (r .read-varlen-slice .ensures) ∙ ap sliceRead (c .before .before .refusal .given .1))
 
 returns-3 : tie.Need-returns-3
-returns-3 c = c .event2 .ensures ∙ payload-escape (rulesOf (c .before .before .before .before .before .before .before .before .args .rules)) (now (c .before .before .before .before .before .before .before .before .args .raw)) (c .before .before .before .before .before .before .before .before .args .begun .start) (c .before .before .before .before .before .before .before .before .args .at) (c .before .before .before .before .before .before .before .before .args .status) (c .before .before .before .before .before .before .before .before .args .begun .delta .0) (c .before .before .before .before .before .before .before .before .pre .0) (c .before .before .before .before .before .before .before .before .pre .1) (sliced (c .before .before .before)) (c .before .if1 .left)
+returns-3 c =
+    let p = c .before .before .before .before in
+    let s = p .before .before .before .before .before in
+    let a = s .args in
+    c .event2 .ensures
+    ∙ payload-escape (rulesOf (a .rules)) (now (a .raw)) (a .begun .start) (a .at) (a .status) (a .begun .delta .0) (s .pre .0) (s .pre .1) (sliced p) (c .before .if1 .left)
 
 pub payload-spec : {M : Type 1} → statement M
 payload-spec =
     tie.close
     (tie.spec
-    read-varlen-slice-requires
-    enum-known-refusal
-    refused-requires
-    enum-known-load
+    (λ c κs. search needs)
+    (λ c. search needs)
+    (λ c κs. search needs)
+    (λ c. search needs)
     add-next
     event-requires
     returns

@@ -6,26 +6,14 @@ use mathlib.Core.Logic.{inl, inr}
 use lib.ListN.{drop}
 use Rattle.smf.specs.Event.{placed, nameRaw}
 use Rattle.smf.proofs.Reading.{status-meta, status-payload, status-common, status-realtime}
-use Rattle.rules.specs.Rules.{rulesOf}
+use Rattle.base.specs.Rules.{rulesOf}
 use borrow.Author.Needs.{needs}
 use Rattle.event.proofs.read.status_kind.Statement.{statement}
 use Rattle.event.proofs.read.status_kind.Tie as tie
 
-meta-requires : tie.Need-meta-requires
-meta-requires c κs = search needs
-
-payload-requires : tie.Need-payload-requires
-payload-requires c κs = search needs
-
-refused-requires : tie.Need-refused-requires
-refused-requires c κs = search needs
-
 returns : tie.Need-returns
 unfolding placed nameRaw
 returns c = c .refused .ensures ∙ rw (status-common (rulesOf (c .before .before .before .before .args .rules)) (c .before .before .before .before .args .running .status) (c .before .before .before .before .args .begun .delta .0) (c .before .before .before .before .args .status) (drop (c .before .before .before .before .args .at) (now (c .before .before .before .before .args .raw))) (c .before .before .before .before .pre .2) (c .before .before .match .rest .0 .1) (λ e. c .before .before .match .rest .1 (inl e)) (λ e. c .before .before .match .rest .1 (inr e)) (c .before .if1 .taken))
-
-refused-requires-2 : tie.Need-refused-requires-2
-refused-requires-2 c κs = search needs
 
 returns-2 : tie.Need-returns-2
 returns-2 c = c .meta .ensures ∙ rw (status-meta (rulesOf (c .before .before .before .args .rules)) (c .before .before .before .args .running .status) (c .before .before .before .args .begun .delta .0) (c .before .before .before .args .status) (drop (c .before .before .before .args .at) (now (c .before .before .before .args .raw))) (c .before .match .keys1))
@@ -41,11 +29,11 @@ pub status-kind-spec : {M : Type 1} → statement M
 status-kind-spec =
     tie.close
     (tie.spec
-    meta-requires
-    payload-requires
-    refused-requires
+    (λ c κs. search needs)
+    (λ c κs. search needs)
+    (λ c κs. search needs)
     returns
-    refused-requires-2
+    (λ c κs. search needs)
     returns-2
     returns-3
     returns-4)

@@ -12,12 +12,6 @@ use Rattle.smf.proofs.Signed.{less-256, signed-low, signed-high}
 use Rattle.header.proofs.signed.from_byte.Statement.{statement}
 use Rattle.header.proofs.signed.from_byte.Tie as tie
 
-cast-result : tie.Need-cast-result
-cast-result c = search needs
-
-cast-result-2 : tie.Need-cast-result-2
-cast-result-2 c = search needs
-
 -- the difference that is made
 lessened : (c : tie.Else1) → toZ w16 (c .before .args .byte) -ℤ pos 256 ≡ negsuc (255 - c .before .args .byte)
 lessened c = rw (toZ-pos w16 (c .before .args .byte) (omega arith)) (less-256 (c .before .args .byte) (omega arith))
@@ -39,4 +33,4 @@ returns-2 c =
     ∙ sym (signed-high (c .before .args .byte) (omega arith) (omega arith))
 
 pub from-byte-spec : {M : Type 1} → statement M
-from-byte-spec = tie.close (tie.spec cast-result cast-result-2 sub-result cast-result-3 returns returns-2)
+from-byte-spec = tie.close (tie.spec (λ c. search needs) (λ c. search needs) sub-result cast-result-3 returns returns-2)

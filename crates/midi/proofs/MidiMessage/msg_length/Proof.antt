@@ -13,15 +13,9 @@ use Rattle.midi.proofs.MidiMessage.msg_length.Tie as tie
 ofUpper : ℕ → ℕ
 ofUpper upper = pick (ltb upper 0x8) 0 (pick (ltb upper 0xF) (pick (eqb upper 0xC) 1 (pick (eqb upper 0xD) 1 2)) 0)
 
-cast-result : tie.Need-cast-result
-cast-result c = search needs
-
-array-read-result : tie.Need-array-read-result
-array-read-result c = search needs
-
 returns : tie.Need-returns
 unfolding dataLength tableLength ofUpper
 returns c = entry ofUpper 16 (c .args .status / 16) (omega arith)
 
 pub msg-length-spec : {M : Type 1} → statement M
-msg-length-spec = tie.close (tie.spec cast-result array-read-result returns)
+msg-length-spec = tie.close (tie.spec (λ c. search needs) (λ c. search needs) returns)

@@ -1,6 +1,8 @@
 -- `put_rows` ends: each turn is a cell on.
-use Prim.Native.Nat.{_-_}
+use Prim.Native.Nat.{_-_, _*_}
 use borrow.Author.Needs.{needs}
+use Rattle.track.specs.List.{capacity}
+use Rattle.rows.specs.Rows.{width}
 use Rattle.vectors.proofs.cells.put_rows.Statement.{statement}
 use Rattle.vectors.proofs.cells.put_rows.Tie as tie
 
@@ -8,7 +10,7 @@ abbrev Inv-loop : tie.InvT-loop
 Inv-loop rows count found₀ at end₀ i₀ found end i = Unit
 
 abbrev μ-loop : tie.MeasureT-loop
-μ-loop rows count found₀ at end₀ i₀ found end i = 1280 - i
+μ-loop rows count found₀ at end₀ i₀ found end i = capacity * width - i
 
 pub put-rows-spec : {M : Type 1} → statement M
 put-rows-spec =

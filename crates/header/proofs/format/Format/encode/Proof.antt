@@ -4,15 +4,6 @@ use Rattle.smf.specs.Header.{formatBytes}
 use Rattle.header.proofs.format.Format.encode.Statement.{statement}
 use Rattle.header.proofs.format.Format.encode.Tie as tie
 
-enum-told : tie.Need-enum-told
-enum-told c = search needs
-
-enum-told-2 : tie.Need-enum-told-2
-enum-told-2 c = search needs
-
-enum-told-3 : tie.Need-enum-told-3
-enum-told-3 c = search needs
-
 returns : tie.Need-returns
 unfolding formatBytes
 returns c = rw (c .enum-told .given .1)
@@ -26,4 +17,4 @@ unfolding formatBytes
 returns-3 c = rw (c .enum-told3 .given .1)
 
 pub encode-spec : {M : Type 1} → statement M
-encode-spec = tie.close (tie.spec enum-told enum-told-2 enum-told-3 returns returns-2 returns-3)
+encode-spec = tie.close (tie.spec (λ c. search needs) (λ c. search needs) (λ c. search needs) returns returns-2 returns-3)

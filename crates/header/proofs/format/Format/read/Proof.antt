@@ -12,15 +12,6 @@ returns : tie.Need-returns
 unfolding readFormat
 returns c = sym (field-short _ (c .before .before .args .raw .now) (c .if1 .taken))
 
-shared-slice-read-word : tie.Need-shared-slice-read-word
-shared-slice-read-word c = search needs
-
-shared-slice-read-word-2 : tie.Need-shared-slice-read-word-2
-shared-slice-read-word-2 c = search needs
-
-word-requires : tie.Need-word-requires
-word-requires c κs = search needs
-
 -- what the bytes' number decides
 decided : (c : tie.After-word) → readFormat (c .before .before .before .before .before .args .raw .now) ≡ toFormat (c .word .result)
 decided c = format-whole _ (c .before .before .before .if1 .left) (c .word .ensures)
@@ -46,9 +37,9 @@ read-spec =
     tie.close
     (tie.spec
     returns
-    shared-slice-read-word
-    shared-slice-read-word-2
-    word-requires
+    (λ c. search needs)
+    (λ c. search needs)
+    (λ c κs. search needs)
     returns-2
     returns-3
     returns-4

@@ -15,28 +15,10 @@ use borrow.Author.Needs.{needs}
 use Rattle.header.proofs.timing.Timing.encode.Statement.{statement}
 use Rattle.header.proofs.timing.Timing.encode.Tie as tie
 
-enum-known-self : tie.Need-enum-known-self
-enum-known-self c = search needs
-
-as-int-requires : tie.Need-as-int-requires
-as-int-requires c κs = search needs
-
 returns : tie.Need-returns
 returns c =
     let b = c .before .before .before in
     rw (b .self .given .1) (sym (ticks-above (b .self .given .0 .0 .0) (omega (arith, c .before .as-int .ensures))))
-
-cast-high : tie.Need-cast-high
-cast-high c = search needs
-
-cast-low : tie.Need-cast-low
-cast-low c = search needs
-
-enum-known-self-2 : tie.Need-enum-known-self-2
-enum-known-self-2 c = search needs
-
-as-int-requires-2 : tie.Need-as-int-requires-2
-as-int-requires-2 c κs = search needs
 
 -- the rate's number
 rate-is : (c : tie.After-as-int2) → Rated (c .before .before .self2 .given .0 .0)
@@ -57,9 +39,6 @@ byte-minus n h some = ap byteOfSigned (toZ-ofZ {w = w8} (minus n h) ∙ minus-sm
 
 sub-minus : tie.Need-sub-minus
 sub-minus c = minus (c .as-int2 .result) (small c)
-
-to-byte-requires : tie.Need-to-byte-requires
-to-byte-requires c κs = search needs
 
 returns-2 : tie.Need-returns-2
 returns-2 c =
@@ -84,15 +63,15 @@ pub encode-spec : {M : Type 1} → statement M
 encode-spec =
     tie.close
     (tie.spec
-    enum-known-self
-    as-int-requires
+    (λ c. search needs)
+    (λ c κs. search needs)
     returns
-    cast-high
-    cast-low
-    enum-known-self-2
-    as-int-requires-2
+    (λ c. search needs)
+    (λ c. search needs)
+    (λ c. search needs)
+    (λ c κs. search needs)
     cast-minus
     sub-minus
-    to-byte-requires
+    (λ c κs. search needs)
     returns-2
     returns-3)

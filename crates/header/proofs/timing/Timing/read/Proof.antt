@@ -22,15 +22,6 @@ returns : tie.Need-returns
 unfolding readTiming
 returns c = sym (field-short timingFrom (c .before .before .args .raw .now) (c .if1 .taken))
 
-shared-slice-read-high : tie.Need-shared-slice-read-high
-shared-slice-read-high c = search needs
-
-shared-slice-read-low : tie.Need-shared-slice-read-low
-shared-slice-read-low c = search needs
-
-word-requires : tie.Need-word-requires
-word-requires c κs = search needs
-
 returns-2 : tie.Need-returns-2
 unfolding readTiming
 returns-2 c =
@@ -38,12 +29,6 @@ returns-2 c =
     sym (field-whole timingFrom (b .before .before .args .raw .now) (b .if1 .left)
     ∙ timing-ticks _ _ (c .before .if2 .taken)
     ∙ ap (λ x. gives (metrical x)) (sym (c .word .ensures)))
-
-from-byte-requires : tie.Need-from-byte-requires
-from-byte-requires c κs = search needs
-
-negated-requires : tie.Need-negated-requires
-negated-requires c κs = search needs
 
 -- the bytes that are read
 abbrev bytes : tie.After-negated → List ℕ
@@ -60,15 +45,6 @@ minus c =
 
 cast-rate : tie.Need-cast-rate
 cast-rate c = rw (minus c) (tt, record { fits = omega (arith, c .before .before .if2 .left) })
-
-from-int-requires : tie.Need-from-int-requires
-from-int-requires c κs = search needs
-
-enum-known-fps : tie.Need-enum-known-fps
-enum-known-fps c = search needs
-
-enum-known-refusal : tie.Need-enum-known-refusal
-enum-known-refusal c = search needs
 
 -- what is read where the high byte says a rate
 told :
@@ -93,15 +69,15 @@ read-spec =
     tie.close
     (tie.spec
     returns
-    shared-slice-read-high
-    shared-slice-read-low
-    word-requires
+    (λ c. search needs)
+    (λ c. search needs)
+    (λ c κs. search needs)
     returns-2
-    from-byte-requires
-    negated-requires
+    (λ c κs. search needs)
+    (λ c κs. search needs)
     cast-rate
-    from-int-requires
-    enum-known-fps
-    enum-known-refusal
+    (λ c κs. search needs)
+    (λ c. search needs)
+    (λ c. search needs)
     returns-3
     returns-4)

@@ -1,104 +1,68 @@
 -- The list reader meets its contract: an invalid running status, and its loop's turns and stops.
 use mathlib.Core.Path.{sym, _∙_}
-use Prim.Native.Nat.{_-_}
+use mathlib.Core.Logic.{⊎-elim}
+use Prim.Native.Nat.{_-_, _<_}
 use native.Mathlib.Omega.{arith}
-use borrow.Author.Tests.{not-true, not-false}
 use lib.ListN.{length}
 use borrow.Author.Needs.{needs}
-use Rattle.smf.specs.Lists.{ended, full, stopped}
-use Rattle.refusal.specs.Refusal.{numberOf}
-use Rattle.rules.specs.Rules.{rulesOf}
+use Rattle.base.specs.Rules.{rulesOf}
+use Rattle.track.specs.Cursor.{readerOf}
 use Rattle.track.specs.List.{capacity}
-use Rattle.track.proofs.Reading.{ends, fills, stops, onward}
+use Rattle.track.proofs.Reading.{took}
 use Rattle.track.proofs.Filling.{Filling, invalid, filling-first, filled, filling-more}
 use Rattle.track.proofs.list.EventList.read.Statement.{statement}
 use Rattle.track.proofs.list.EventList.read.Tie as tie
 
 abbrev Inv-loop : tie.InvT-loop
-Inv-loop raw at rules list₀ place₀ status₀ count₀ list place status count = Filling capacity (rulesOf rules) raw at status₀ (list .records) place status count
+Inv-loop raw at rules list₀ cursor₀ list cursor = Filling capacity (rulesOf rules) raw at (cursor₀ .running .status) (list .records) (readerOf cursor)
 
 abbrev μ-loop : tie.MeasureT-loop
-μ-loop raw at rules list₀ place₀ status₀ count₀ list place status count = length raw - place
-
-is-valid-requires : tie.Need-is-valid-requires Inv-loop μ-loop
-is-valid-requires c κs = search needs
-
-unread-requires : tie.Need-unread-requires Inv-loop μ-loop
-unread-requires c κs = search needs
-
--- the running status is none
-returns : tie.Need-returns Inv-loop μ-loop
-returns c =
-    let a = c .before .before .before .before .args in
-    let v = c .before .before .is-valid in
-    c .unread .ensures
-    ∙ invalid capacity (rulesOf (a .rules)) (a .raw .now) (a .at) (a .running .status) (sym (v .ensures) ∙ not-true (v .result) (c .before .if1 .taken))
-
-new-requires : tie.Need-new-requires Inv-loop μ-loop
-new-requires c κs = search needs
+μ-loop raw at rules list₀ cursor₀ list cursor = length raw - cursor .place
 
 loop-holds : tie.Need-loop-holds Inv-loop μ-loop
 loop-holds c =
-    let a = c .before .before .before .before .args in
-    let v = c .before .before .is-valid in
-    let l = c .new .result in
-    filling-first capacity (rulesOf (a .rules)) (a .raw .now) (a .at) (a .running .status) (l .records) (l .count) (c .new .ensures)
-    (sym (v .ensures) ∙ not-false (v .result) (c .before .if1 .left))
+    let n = c .before .before in
+    let a = n .before .before .args in
+    let l = n .new .result in
+    filling-first capacity (rulesOf (a .rules)) (a .raw .now) (a .at) (a .running .status) (l .records) (l .count) (n .new .ensures)
+    (sym (c .before .is-valid .ensures) ∙ c .if1 .taken)
 
-read-requires : tie.Need-read-requires Inv-loop μ-loop
-read-requires c κs = search needs
+-- there is a record for the event
+room : (c : tie.After-step Inv-loop μ-loop) → c .before .before .before .loop .cursor .count < capacity
+room c =
+    let n = c .before .before in
+    took (n .before .loop .inv .sofar) (n .next .result) (n .next .ensures) (c .step .given .0 .0) (c .step .given .1) .room
 
-enum-known-n : tie.Need-enum-known-n Inv-loop μ-loop
-enum-known-n c = search needs
+mul-kept : tie.Need-mul-kept Inv-loop μ-loop
+mul-kept c = record { fits = omega (arith, room (c .before .before .before)) }
 
-enum-known-e : tie.Need-enum-known-e Inv-loop μ-loop
-enum-known-e c = search needs
-
-mul-event : tie.Need-mul-event Inv-loop μ-loop
-mul-event c = search needs
-
-element-set-from-event : tie.Need-element-set-from-event Inv-loop μ-loop
-element-set-from-event c = search needs
-
-add-count : tie.Need-add-count Inv-loop μ-loop
-add-count c = search needs
-
-add-place : tie.Need-add-place Inv-loop μ-loop
-add-place c =
-    let e = c .before .before .before in
-    let l = e .before .before .before .before .before .loop in
-    let f = onward (l .inv .sofar) (e .before .before .read .result) (e .before .before .read .ensures) (e .e .given .0 .0) (e .e .given .1) in
-    omega (arith, f .1, e .before .before .before .before .before .before .before .before .before .before .good .0 .0)
+element-set-from-kept : tie.Need-element-set-from-kept Inv-loop μ-loop
+element-set-from-kept c = room (c .before .before .before)
 
 loop-less : tie.Need-loop-less Inv-loop μ-loop
 loop-less c =
-    let e = c .before .before .before in
-    let l = e .before .before .before .before .before .loop in
-    let f = onward (l .inv .sofar) (e .before .before .read .result) (e .before .before .read .ensures) (e .e .given .0 .0) (e .e .given .1) in
-    omega (arith, f .0, f .1)
+    let s = c .before .before .before .before in
+    let n = s .before .before in
+    let t = took (n .before .loop .inv .sofar) (n .next .result) (n .next .ensures) (s .step .given .0 .0) (s .step .given .1) in
+    omega (arith, t .moved, t .within)
 
 loop-again : tie.Need-loop-again Inv-loop μ-loop
 loop-again c =
-    let e = c .before .before .before in
-    let l = e .before .before .before .before .before .loop in
-    filling-more (l .inv) (e .before .before .read .result) (e .before .before .read .ensures) (e .e .given .0 .0) (e .e .given .1) (e .before .before .before .if3 .left)
+    let s = c .before .before .before .before in
+    let n = s .before .before in
+    filling-more (n .before .loop .inv) (n .next .result) (n .next .ensures) (s .step .given .0 .0) (s .step .given .1) (c .before .recorded .result) (c .before .recorded .ensures)
 
-returns-2 : tie.Need-returns-2 Inv-loop μ-loop
-returns-2 c =
-    let l = c .before .loop in
-    filled (l .inv) ended (ends (l .inv .sofar) (omega (arith, c .if2 .taken)))
-
-returns-3 : tie.Need-returns-3 Inv-loop μ-loop
-returns-3 c =
-    let l = c .before .before .loop in
-    filled (l .inv) full (fills (l .inv .sofar) (c .before .if2 .left) (c .if3 .taken))
-
-returns-4 : tie.Need-returns-4 Inv-loop μ-loop
-returns-4 c =
-    let n = c .before in
-    let l = n .before .before .before .before .before .loop in
-    filled (l .inv) (stopped (numberOf (n .n .given .0 .0 .refusal)))
-    (stops (l .inv .sofar) (n .before .before .read .result) (n .before .before .read .ensures) (n .n .given .0 .0) (n .before .before .before .before .if2 .left) (n .before .before .before .if3 .left) (n .n .given .1))
+returns : tie.Need-returns Inv-loop μ-loop
+returns c =
+    let j = c .before in
+    let n = j .before .before in
+    let a = n .before .before .args in
+    let l = n .new .result in
+    ⊎-elim (λ w. rw (w .6, w .7, w .8) (filled (w .1 .inv) (w .2 .result) (w .2 .ensures) (w .4 .given .0 .0) (w .4 .given .1)))
+    (λ w. rw (w .1, w .2, w .3)
+    (invalid capacity (rulesOf (a .rules)) (a .raw .now) (a .at) (a .running .status) (l .records) (l .count) (n .new .ensures)
+    (sym (j .before .is-valid .ensures) ∙ w .0 .left)))
+    (j .if1 .came)
 
 pub read-spec : {M : Type 1} → statement M
 read-spec =
@@ -106,20 +70,15 @@ read-spec =
     (tie.spec
     Inv-loop
     μ-loop
-    is-valid-requires
-    unread-requires
-    returns
-    new-requires
+    (λ c κs. search needs)
+    (λ c κs. search needs)
     loop-holds
-    read-requires
-    enum-known-n
-    enum-known-e
-    mul-event
-    element-set-from-event
-    add-count
-    add-place
+    (λ c κs. search needs)
+    (λ c. search needs)
+    (λ c. search needs)
+    (λ c κs. search needs)
+    mul-kept
+    element-set-from-kept
     loop-less
     loop-again
-    returns-2
-    returns-3
-    returns-4)
+    returns)

@@ -1,0 +1,2 @@
+pub mod RefusalNumbers
+pub mod IdenticalNumbers

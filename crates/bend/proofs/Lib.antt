@@ -1,2 +1,0 @@
-pub mod BendFloats
-pub mod Identical

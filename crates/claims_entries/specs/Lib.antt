@@ -1,2 +1,0 @@
--- What is claimed of the entries.
-pub mod Entries

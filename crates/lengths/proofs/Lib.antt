@@ -1,4 +1,0 @@
-pub mod Most
-pub mod Measuring
-pub mod Sizes
-pub mod Identical

@@ -1,2 +1,0 @@
--- What reading with a lent running status promises.
-pub mod Lent

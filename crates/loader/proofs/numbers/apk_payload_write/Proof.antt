@@ -1,0 +1,24 @@
+-- `loader::numbers::apk_payload_write` meets its contract, by what `write_varlen_slice` ensures of its answer and of the buffer. Assumes nothing.
+use mathlib.Core.Path.{refl}
+use borrow.Author.Needs.{needs}
+use Rattle.loader.proofs.numbers.apk_payload_write.Statement.{statement}
+use Rattle.loader.proofs.numbers.apk_payload_write.Tie as tie
+
+returns : tie.Need-returns
+returns c = simp (← c .number .ensures, c .before .before .refusal .given .1, ← c .before .before .before .before .before .before .write-varlen-slice .ensures) (refl, (refl, refl))
+
+returns-2 : tie.Need-returns-2
+returns-2 c = simp (c .before .end .given .1, ← c .before .before .before .before .before .write-varlen-slice .ensures) (refl, (refl, refl))
+
+pub apk-payload-write-spec : {M : Type 1} → statement M
+apk-payload-write-spec =
+    tie.close
+    (tie.spec
+    (λ c κs. search needs)
+    (λ c. search needs)
+    (λ c κs. search needs)
+    (λ c. search needs)
+    (λ c. search needs)
+    returns
+    (λ c. search needs)
+    returns-2)

@@ -1,0 +1,22 @@
+-- `apk_smpte_encode` meets its contract, by what `time_given` and `encode` ensure of their answers.
+use mathlib.Core.Path.{refl}
+use borrow.Author.Needs.{needs}
+use Rattle.loader.proofs.smpte.apk_smpte_encode.Statement.{statement}
+use Rattle.loader.proofs.smpte.apk_smpte_encode.Tie as tie
+
+pub apk-smpte-encode-spec : {M : Type 1} → statement M
+apk-smpte-encode-spec =
+    tie.close
+    (tie.spec
+    (λ c κs. search needs)
+    (λ c. search needs)
+    (λ c κs. search needs)
+    (λ c. search needs)
+    (λ c κs. search needs)
+    (λ c κs. search needs)
+    (λ c. search needs)
+    (λ c κs. search needs)
+    (λ c. search needs)
+    (λ c. simp (← c .number .ensures, c .before .before .refusal .given .1, ← c .before .before .before .before .time-given .ensures) (refl, refl))
+    (λ c. simp (← c .number2 .ensures, c .before .before .refusal2 .given .1, ← c .before .before .before .before .encode .ensures, ← c .before .before .before .before .before .rules .ensures, c .before .before .before .before .before .before .before .time .given .1, ← c .before .before .before .before .before .before .before .before .before .time-given .ensures) (refl, refl))
+    (λ c. simp (c .before .before .first .given .1, ← c .before .before .before .before .encode .ensures, ← c .before .before .before .before .before .rules .ensures, c .before .before .before .before .before .before .before .time .given .1, ← c .before .before .before .before .before .before .before .before .before .time-given .ensures) (refl, refl)))

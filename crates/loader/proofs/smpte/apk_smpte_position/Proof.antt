@@ -1,0 +1,22 @@
+-- `apk_smpte_position` meets its contract, by what `time_given` and `position` ensure of their answers.
+use mathlib.Core.Path.{refl}
+use borrow.Author.Needs.{needs}
+use Rattle.loader.proofs.smpte.apk_smpte_position.Statement.{statement}
+use Rattle.loader.proofs.smpte.apk_smpte_position.Tie as tie
+
+pub apk-smpte-position-spec : {M : Type 1} → statement M
+apk-smpte-position-spec =
+    tie.close
+    (tie.spec
+    (λ c κs. search needs)
+    (λ c. search needs)
+    (λ c κs. search needs)
+    (λ c. search needs)
+    (λ c κs. search needs)
+    (λ c κs. search needs)
+    (λ c. search needs)
+    (λ c κs. search needs)
+    (λ c. search needs)
+    (λ c. simp (← c .number .ensures, c .before .before .refusal .given .1, ← c .before .before .before .before .time-given .ensures) (refl, refl))
+    (λ c. simp (← c .number2 .ensures, c .before .before .refusal2 .given .1, ← c .before .before .before .before .position .ensures, ← c .before .before .before .before .before .rules .ensures, c .before .before .before .before .before .before .before .time .given .1, ← c .before .before .before .before .before .before .before .before .before .time-given .ensures) (refl, refl))
+    (λ c. simp (c .before .found .given .1, ← c .before .before .before .position .ensures, ← c .before .before .before .before .rules .ensures, c .before .before .before .before .before .before .time .given .1, ← c .before .before .before .before .before .before .before .before .time-given .ensures) (refl, refl)))

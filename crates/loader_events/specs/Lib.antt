@@ -1,2 +1,0 @@
--- What the entries for events answer, in plain numbers.
-pub mod Events

@@ -1,2 +1,0 @@
--- What the entries for header fields answer, in plain numbers.
-pub mod Fields

@@ -1,3 +1,0 @@
--- Laws on what the entries for lists answer.
-pub mod Sheets
-pub mod Sizes

@@ -1,2 +1,0 @@
--- What the entries for lists answer, in plain numbers.
-pub mod Lists

@@ -1,3 +1,0 @@
--- Laws on what the entries for sameness answer.
-pub mod Told
-pub mod Identical

@@ -1,2 +1,0 @@
--- What the entries for sameness answer, in plain numbers.
-pub mod Same

@@ -1,0 +1,36 @@
+-- What reading, measuring and writing an event leave the caller with: an event is a row of numbers.
+use mathlib.Core.List.{List}
+use Prim.Native.Nat.{ℕ}
+use Rattle.smf.specs.Answer.{Answer, Rules}
+use Rattle.smf.specs.Event.{ReadAt, readsAt, refusedAt, EventWritten, writeEvent}
+use Rattle.write.specs.Size.{Size, sizeEvent}
+use Rattle.rows.specs.Rows.{eventRow}
+use Rattle.rows.specs.RowEvent.{rowRecord}
+
+-- the answer: 0 where an event was read, else the refusal's number
+abbrev pub readAnswered : ReadAt → ℕ
+readAnswered (readsAt e) = 0
+readAnswered (refusedAt n used running) = n
+
+-- the row at the end: the event's; after a refusal, what it held
+abbrev pub readRow : ReadAt → List ℕ → List ℕ
+readRow (readsAt e) held = eventRow (e .event)
+readRow (refusedAt n used running) held = held
+
+-- the bytes used, which after a refusal are none
+abbrev pub readUsed : ReadAt → ℕ
+readUsed (readsAt e) = e .used
+readUsed (refusedAt n used running) = used
+
+-- the running status after the event, or that the refusal leaves
+abbrev pub readRunning : ReadAt → ℕ
+readRunning (readsAt e) = e .running
+readRunning (refusedAt n used running) = running
+
+-- how long the bytes of a row's event are, and the running status after it; document 01: 1, then 18, 19, 22, 23
+abbrev pub rowSize : Rules → ℕ → List ℕ → List ℕ → Answer Size
+rowSize rules running payload row = sizeEvent rules running payload (rowRecord row)
+
+-- what writing a row's event leaves
+abbrev pub rowWritten : Rules → ℕ → List ℕ → List ℕ → List ℕ → ℕ → EventWritten
+rowWritten rules running payload row buffer at = writeEvent rules running payload (rowRecord row) buffer at

@@ -1,3 +1,0 @@
-pub mod Identical
-pub mod Slices
-pub mod Copying

@@ -1,4 +1,0 @@
-pub mod Storing
-pub mod Putting
-pub mod Composed
-pub mod Identical

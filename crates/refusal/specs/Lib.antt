@@ -1,2 +1,0 @@
--- What a refusal's number is.
-pub mod Refusal

@@ -1,0 +1,9 @@
+pub mod Width
+pub mod Fitting
+pub mod IsRow
+pub mod Kept
+pub mod Identical
+pub mod RowCells
+pub mod CellsFit
+pub mod IdenticalLists
+pub mod RowsKept

@@ -1,0 +1,47 @@
+-- What reading a list into cells leaves in them and answers, in the paper's terms.
+use mathlib.Core.List.{List}
+use Prim.Native.Nat.{ℕ}
+use lib.ListN.{length}
+use Rattle.smf.specs.Answer.{Answer, gives, refuses, andThen}
+use Rattle.smf.specs.Write.{Written, put}
+use Rattle.smf.specs.Lists as smf
+use Rattle.base.specs.Refusal.{numberOf}
+use Rattle.track.specs.Cursor.{stopOf}
+use Rattle.rows.specs.Sheet.{sheetOf}
+use Rattle.rows.specs.declared.lists.RowsRead.{RowsRead}
+use Rattle.rows.specs.declared.lists.ReadRows.{ReadRows}
+use Rattle.rows.specs.declared.lists.ReadRows.the-variants as read
+
+-- of a list that was read: how many its events are, why reading stopped, the place of the next unread byte and the running status there
+pub record SheetAt : Type 0 where
+  pub count : ℕ
+  pub stop : smf.Stop
+  pub place : ℕ
+  pub running : ℕ
+
+abbrev pub sheetAt : smf.ListAt → SheetAt
+sheetAt l = record { count = length (l .events); stop = l .stop; place = l .place; running = l .running }
+
+-- what is left in the cells, and the answer
+pub record SheetRead : Type 0 where
+  pub cells : List ℕ
+  pub answer : Answer SheetAt
+
+abbrev pub sheetRead : smf.ListAt → Written → SheetRead
+sheetRead l w = record { cells = w .buffer; answer = andThen (w .answer) (λ (n : ℕ). gives (sheetAt l)) }
+
+-- the rows of a list, put into cells from the first on; 20 where the cells are too few, which stay as they came
+abbrev pub readSheet : smf.ListAt → List ℕ → SheetRead
+readSheet l cells = sheetRead l (put (sheetOf (l .events)) cells 0)
+
+-- what the code answers
+abbrev pub rowsRead : RowsRead → SheetAt
+rowsRead r = record { count = r .count; stop = stopOf (r .stop); place = r .place; running = r .running .status }
+
+abbrev pub readAnswered : ReadRows → Answer SheetAt
+readAnswered (read.Rows r) = gives (rowsRead r)
+readAnswered (read.Refused n) = refuses (numberOf n)
+
+-- with what the cells hold at the end
+abbrev pub rowsLeft : ReadRows → List ℕ → SheetRead
+rowsLeft r cells = record { cells = cells; answer = readAnswered r }

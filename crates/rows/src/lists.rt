@@ -1,0 +1,124 @@
+// Lists read into rows: each event goes straight into its row, from the first cell on.
+ghost use mathlib.Core.Path.{_≡_};
+ghost use Prim.Native.Nat.{_+_, _*_, _≤_};
+ghost use lib.ListN.{length, take};
+ghost use Rattle.smf.specs.Write.{over};
+ghost use Rattle.smf.specs.Lists.{listAt};
+ghost use Rattle.base.specs.Rules.{rulesOf};
+ghost use Rattle.rows.specs.Rows.{width};
+ghost use Rattle.track.specs.List.{capacity};
+ghost use Rattle.rows.specs.Read.{readSheet, rowsLeft};
+use crate::WIDTH;
+use crate::event_row;
+use base::Refusal;
+use base::Rules;
+use base::Running;
+use track::cursor::Cursor;
+use track::cursor::Next;
+use track::cursor::Stop;
+use track::list::CAPACITY;
+
+// How many cells the rows of a full list take.
+const CELLS: usize = CAPACITY * WIDTH;
+
+// How many events were read and why reading stopped; the place of the next unread byte, and the running status there.
+pub struct RowsRead {
+    pub count: usize,
+    pub stop: Stop,
+    pub place: usize,
+    pub running: Running,
+}
+
+pub enum ReadRows {
+    Rows(RowsRead),
+    Refused(Refusal),
+}
+
+fn put_row(rows: &mut [u64], at: usize, row: [u64; WIDTH])
+    requires { ⌜ at + width ≤ length (now rows) ⌝ }
+    ensures { λ r. ⌜ now (rows .exit) ≡ over row (now (rows .entry)) at ⌝ }
+{
+    let mut i: usize = 0;
+    while i < WIDTH {
+        rows[at + i] = row[i];
+        i += 1;
+    }
+}
+
+// The first so many cells of some, put into the first cells of others.
+fn copy_cells(cells: &[u64], n: usize, rows: &mut [u64])
+    requires { ⌜ (n ≤ length (now cells)) × (n ≤ length (now rows)) ⌝ }
+    ensures { λ r. ⌜ now (rows .exit) ≡ over (take n (now (cells .entry))) (now (rows .entry)) 0 ⌝ }
+{
+    let mut i: usize = 0;
+    while i < n {
+        rows[i] = cells[i];
+        i += 1;
+    }
+}
+
+// One row behind the other, into cells for a full list; nothing is read from a running status that is none.
+fn lay_rows(raw: &[u8], at: usize, running: Running, rules: Rules, rows: &mut [u64]) -> RowsRead
+    requires { ⌜ capacity * width ≤ length (now rows) ⌝ }
+    ensures { λ r. ⌜ rowsLeft (ReadRows.Rows r) (now (rows .exit)) ≡ readSheet (listAt (rulesOf rules) capacity (running .status) (now (raw .entry)) at) (now (rows .entry)) ⌝ }
+{
+    let mut cursor = Cursor {
+        running,
+        place: at,
+        count: 0,
+    };
+    let mut stop = Stop::Refused(Refusal::RunningStatus);
+    if running.is_valid() {
+        stop = loop {
+            match cursor.next(raw, rules) {
+                Next::Stop(why) => {
+                    break why;
+                }
+                Next::Event(step) => {
+                    let event = step.event;
+                    let kind = event.kind;
+                    put_row(rows, cursor.count * WIDTH, event_row(event.delta.0, kind));
+                    cursor = step.cursor;
+                }
+            }
+        };
+    }
+    let after = cursor.running;
+    RowsRead {
+        count: cursor.count,
+        stop,
+        place: cursor.place,
+        running: after,
+    }
+}
+
+// Where there are fewer cells than a full list needs: the rows are laid into cells of their own, and copied where they fit.
+fn fit_rows(raw: &[u8], at: usize, running: Running, rules: Rules, rows: &mut [u64]) -> ReadRows
+    ensures { λ r. ⌜ rowsLeft r (now (rows .exit)) ≡ readSheet (listAt (rulesOf rules) capacity (running .status) (now (raw .entry)) at) (now (rows .entry)) ⌝ }
+{
+    let mut cells = [0u64; CELLS];
+    let read = lay_rows(raw, at, running, rules, &mut cells);
+    let n = read.count * WIDTH;
+    if rows.len() < n {
+        return ReadRows::Refused(Refusal::NoRoom);
+    }
+    copy_cells(&cells, n, rows);
+    ReadRows::Rows(read)
+}
+
+// The list at a place, from a running status: its rows, and where reading stopped. The rows before a refused event
+// stand. Where the cells are too few for the events that are read, every cell stays as it came.
+pub fn read_rows(
+    raw: &[u8],
+    at: usize,
+    running: Running,
+    rules: Rules,
+    rows: &mut [u64],
+) -> ReadRows
+    ensures { λ r. ⌜ rowsLeft r (now (rows .exit)) ≡ readSheet (listAt (rulesOf rules) capacity (running .status) (now (raw .entry)) at) (now (rows .entry)) ⌝ }
+{
+    if rows.len() < CELLS {
+        return fit_rows(raw, at, running, rules, rows);
+    }
+    ReadRows::Rows(lay_rows(raw, at, running, rules, rows))
+}

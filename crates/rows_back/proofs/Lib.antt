@@ -1,2 +1,0 @@
--- Laws on rows.
-pub mod Kept

@@ -1,2 +1,0 @@
--- The event of a row.
-pub mod RowEvent

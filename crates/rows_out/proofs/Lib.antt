@@ -1,2 +1,0 @@
--- Laws on a channel message's row.
-pub mod ChannelRows

@@ -1,2 +1,0 @@
--- A channel message's row, and the bytes that it has.
-pub mod ChannelRow

@@ -1,2 +1,0 @@
--- The rules as the definitions take them.
-pub mod Rules

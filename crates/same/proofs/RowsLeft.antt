@@ -1,0 +1,138 @@
+-- What the loops over rows keep: what holds of all rows holds of those that are left, and the other way round.
+use mathlib.Core.Path.{_≡_, refl, sym, ap, ap₂, _∙_}
+use mathlib.Core.Bool.{Bool, true, false, _&&_}
+use mathlib.Core.List.{List, [], _∷_, map}
+use Prim.Native.Nat.{ℕ, zero, suc, _+_, _-_, _*_, _<_, _≤_}
+use native.Mathlib.Omega.{arith}
+use lib.ListN.{length, take, drop}
+use lib.Seq.{drop-drop, take-all}
+use Rattle.smf.specs.Place.{Span}
+use Rattle.smf.specs.Event.{Event, mapEvent, bytesOf}
+use Rattle.smf.specs.Lists.{Counted, SameList}
+use Rattle.smf.proofs.Answer.{both}
+use Rattle.rows.specs.Rows.{width}
+use Rattle.rows.specs.RowEvent.{isRow, eventOfRow, rowRecord}
+use Rattle.rows.specs.RowLists.{rowRecords, areRows}
+use Rattle.same.specs.OfRows.{SameGiven}
+
+-- the row at a cell, and those behind it
+module _ (cells : List ℕ) (at : ℕ) {left : ℕ} (more : 0 < left) where
+  one-more : left ≡ suc (left - 1)
+  one-more = omega arith
+
+  rows-on : areRows left (drop at cells) ≡ (isRow (take width (drop at cells)) && areRows (left - 1) (drop (at + width) cells))
+  unfolding areRows
+  rows-on = ap (λ (n : ℕ). areRows n (drop at cells)) one-more ∙ ap (λ (l : List ℕ). isRow (take width (drop at cells)) && areRows (left - 1) l) (drop-drop width at cells)
+
+  records-on : rowRecords left (drop at cells) ≡ rowRecord (take width (drop at cells)) ∷ rowRecords (left - 1) (drop (at + width) cells)
+  unfolding rowRecords
+  records-on = ap (λ (n : ℕ). rowRecords n (drop at cells)) one-more ∙ ap (λ (l : List ℕ). rowRecord (take width (drop at cells)) ∷ rowRecords (left - 1) l) (drop-drop width at cells)
+
+-- the rows before the place are events'
+pub record Looked (count : ℕ) (cells : List ℕ) (at left : ℕ) : Type 0 where
+  pub within : at + left * width ≡ count * width
+  pub told : areRows count cells ≡ areRows left (drop at cells)
+
+pub looked-first : (count : ℕ) (cells : List ℕ) → Looked count cells 0 count
+looked-first count cells = record { within = omega arith; told = refl }
+
+module _ {count : ℕ} {cells : List ℕ} {at left : ℕ} (g : Looked count cells at left) where
+  pub looked-none : 0 < left → isRow (take width (drop at cells)) ≡ false → false ≡ areRows count cells
+  looked-none more h = sym (g .told ∙ rows-on cells at more ∙ ap (λ (t : Bool). t && areRows (left - 1) (drop (at + width) cells)) h)
+
+  pub looked-more : 0 < left → isRow (take width (drop at cells)) ≡ true → Looked count cells (at + width) (left - 1)
+  looked-more more h =
+      record { within = omega (arith, g .within); told = g .told ∙ rows-on cells at more ∙ ap (λ (t : Bool). t && areRows (left - 1) (drop (at + width) cells)) h }
+
+  pub looked-last : left ≤ 0 → true ≡ areRows count cells
+  unfolding areRows
+  looked-last h = let e : left ≡ 0 = omega arith in sym (g .told ∙ ap (λ (n : ℕ). areRows n (drop at cells)) e)
+
+records-length : (n : ℕ) (cells : List ℕ) → length (rowRecords n cells) ≡ n
+unfolding rowRecords
+records-length zero cells = refl
+records-length (suc n) cells = ap suc (records-length n (drop width cells))
+
+module _ (s a t b : List ℕ) where
+  -- so many rows have the same events
+  abbrev Alike : ℕ → List ℕ → List ℕ → Type 0
+  Alike n xs ys = map (mapEvent (bytesOf s)) (rowRecords n xs) ≡ map (mapEvent (bytesOf t)) (rowRecords n ys)
+
+  abbrev SameRows : ℕ → Type 0
+  SameRows n = SameList s (rowRecords n a) n t (rowRecords n b) n
+
+  taken : (n : ℕ) (cells : List ℕ) → take n (rowRecords n cells) ≡ rowRecords n cells
+  taken n cells = take-all n (rowRecords n cells) (omega (arith, records-length n cells))
+
+  pub as-lists : (n : ℕ) → Alike n a b → SameRows n
+  as-lists n h = rw (taken n a, taken n b) (ap (λ (l : List (Event (List ℕ))). record { count = n; events = l }) h)
+
+  pub as-rows : (n : ℕ) → SameRows n → Alike n a b
+  as-rows n h = ap (λ (c : Counted). c .events) (rw (taken n a, taken n b) at h)
+
+  -- the rows before the place have the same events
+  pub record Compared (count at left : ℕ) : Type 0 where
+    pub within : at + left * width ≡ count * width
+    pub first-rows : areRows left (drop at a) ≡ true
+    pub second-rows : areRows left (drop at b) ≡ true
+    pub to : Alike left (drop at a) (drop at b) → Alike count a b
+    pub from : Alike count a b → Alike left (drop at a) (drop at b)
+
+  pub compared-first : (count : ℕ) → areRows count a ≡ true → areRows count b ≡ true → Compared count 0 count
+  compared-first count p q = record { within = omega arith; first-rows = p; second-rows = q; to = λ h. h; from = λ h. h }
+
+  module _ {count at left : ℕ} (g : Compared count at left) where
+    pub compared-last : left ≤ 0 → SameRows count
+    unfolding rowRecords
+    compared-last h =
+        let e : left ≡ 0 = omega arith in
+        let none : Alike left (drop at a) (drop at b) = rw e refl in
+        as-lists count (g .to none)
+
+    module _ (more : 0 < left) where
+      abbrev ra : List ℕ
+      ra = take width (drop at a)
+
+      abbrev rb : List ℕ
+      rb = take width (drop at b)
+
+      first : (isRow ra ≡ true) × (areRows (left - 1) (drop (at + width) a) ≡ true)
+      first = both (isRow ra) (areRows (left - 1) (drop (at + width) a)) (sym (rows-on a at more) ∙ g .first-rows)
+
+      second : (isRow rb ≡ true) × (areRows (left - 1) (drop (at + width) b) ≡ true)
+      second = both (isRow rb) (areRows (left - 1) (drop (at + width) b)) (sym (rows-on b at more) ∙ g .second-rows)
+
+      abbrev SameHere : Type 0
+      SameHere = mapEvent (bytesOf s) (rowRecord ra) ≡ mapEvent (bytesOf t) (rowRecord rb)
+
+      here : SameGiven s (eventOfRow ra) t (eventOfRow rb) → SameHere
+      unfolding eventOfRow rowRecord
+      here h = rw (first .0, second .0) (rw (first .0, second .0) at h)
+
+      given : SameHere → SameGiven s (eventOfRow ra) t (eventOfRow rb)
+      unfolding eventOfRow rowRecord
+      given h = rw (first .0, second .0) (rw (first .0, second .0) at h)
+
+      abbrev Ahead : Type 0
+      Ahead = Alike (left - 1) (drop (at + width) a) (drop (at + width) b)
+
+      apart : Alike count a b → SameHere × Ahead
+      apart h =
+          let e : map (mapEvent (bytesOf s)) (rowRecord ra ∷ rowRecords (left - 1) (drop (at + width) a)) ≡ map (mapEvent (bytesOf t)) (rowRecord rb ∷ rowRecords (left - 1) (drop (at + width) b)) = rw (records-on a at more, records-on b at more) at (g .from h) in
+          (cc, cc)
+
+      together : SameHere → Ahead → Alike count a b
+      together p q = g .to (rw (records-on a at more, records-on b at more) (ap₂ (λ (x : Event (List ℕ)) (l : List (Event (List ℕ))). x ∷ l) p q))
+
+      pub compared-more : SameGiven s (eventOfRow ra) t (eventOfRow rb) → Compared count (at + width) (left - 1)
+      compared-more h =
+          record {
+            within = omega (arith, g .within);
+            first-rows = first .1;
+            second-rows = second .1;
+            to = λ q. together (here h) q;
+            from = λ q. apart q .1;
+          }
+
+      pub compared-differ : (SameGiven s (eventOfRow ra) t (eventOfRow rb) → ⊥) → SameRows count → ⊥
+      compared-differ differ same = differ (given (apart (as-rows count same) .0))

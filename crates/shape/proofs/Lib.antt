@@ -1,2 +1,0 @@
-pub mod Channels
-pub mod Forms

@@ -1,3 +1,0 @@
--- Lists as rows of numbers, and reading them so.
-pub mod Sheet
-pub mod Read

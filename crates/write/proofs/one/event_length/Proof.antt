@@ -1,0 +1,25 @@
+-- `event_length` meets its contract: the running status first.
+use mathlib.Core.Path.{_≡_, refl, sym, ap, subst, _∙_}
+use borrow.Author.Needs.{needs}
+use borrow.Author.Tests.{lt-ltb, le-ltb, eq-eqb, ne-eqb, le-leb, lt-leb, leb-true, not-true, not-false}
+use Rattle.base.specs.Rules.{rulesOf}
+use Rattle.event.specs.Event.{eventOf}
+use Rattle.write.specs.Size.{eventSize, sizeEvent}
+use Rattle.write.proofs.Doors.{told}
+use Rattle.write.proofs.one.event_length.Statement.{statement}
+use Rattle.write.proofs.one.event_length.Tie as tie
+
+returns : tie.Need-returns
+unfolding sizeEvent
+returns c = rw (← c .before .is-valid .ensures, not-true (c .before .is-valid .result) (c .if1 .taken))
+
+measured-requires : tie.Need-measured-requires
+measured-requires c κs = let a = c .before .before .before .before .args in told (rulesOf (a .rules)) (a .bytes .now) (eventOf (a .event)) (c .event-raw .result) (c .event-raw .ensures)
+
+returns-2 : tie.Need-returns-2
+unfolding sizeEvent eventSize
+returns-2 c = let v = c .before .before .before .is-valid in rw (← v .ensures, not-false (v .result) (c .before .before .if1 .left), ← c .before .event-raw .ensures) (c .measured .ensures)
+
+pub event-length-spec : {M : Type 1} → statement M
+event-length-spec =
+    tie.close (tie.spec (λ c κs. search needs) returns (λ c κs. search needs) measured-requires returns-2)

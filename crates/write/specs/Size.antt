@@ -1,0 +1,41 @@
+-- How long an event's bytes are, and the running status that they leave.
+use mathlib.Core.List.{List}
+use Prim.Native.Nat.{ℕ}
+use lib.ListN.{length}
+use Rattle.smf.specs.Answer.{pick, Answer, gives, refuses, andThen, Rules}
+use Rattle.smf.specs.Running.{isRunning}
+use Rattle.smf.specs.Place.{Span}
+use Rattle.smf.specs.Wire.{RawEvent, encodeRawEvent, runningAfter}
+use Rattle.smf.specs.Event.{Event}
+use Rattle.base.specs.Refusal.{numberOf}
+use Rattle.write.specs.Raw.{rawLegal}
+use Rattle.write.specs.declared.answer.Size as answer
+use Rattle.write.specs.declared.answer.EventLength.{EventLength}
+use Rattle.write.specs.declared.answer.EventLength.the-variants as event
+
+-- an event's length, and the running status after it
+pub record Size : Type 0 where
+  pub length : ℕ
+  pub running : ℕ
+
+abbrev pub size : ℕ → ℕ → Size
+size length running = record { length = length; running = running }
+
+abbrev pub sizeOf : answer.Size → Size
+sizeOf s = size (s .length) (s .running .status)
+
+abbrev pub lengthSaid : EventLength → Answer Size
+lengthSaid (event.Length s) = gives (sizeOf s)
+lengthSaid (event.Refused n) = refuses (numberOf n)
+
+-- of a raw event, from a running status
+abbrev pub rawSize : ℕ → RawEvent → Size
+rawSize running e = size (length (encodeRawEvent running e)) (runningAfter (e .raw))
+
+-- of an event over the bytes lent: 18, 19, 22, 23 in that order where it is illegal
+unfoldable pub eventSize : Rules → ℕ → List ℕ → Event Span → Answer Size
+eventSize rules running bytes e = andThen (rawLegal rules bytes e) (λ raw. gives (rawSize running raw))
+
+-- the same from a running status that is looked at first: 1 where it is invalid
+unfoldable pub sizeEvent : Rules → ℕ → List ℕ → Event Span → Answer Size
+sizeEvent rules running bytes e = pick (isRunning running) (eventSize rules running bytes e) (refuses 1)

@@ -1,0 +1,14 @@
+// Writing: module 6 of document 01, the writing half, and lists of module 7. An event or a row goes through its door, which
+// answers what stands behind the delta as bytes or the number of what forbids it; behind the doors there is one length and
+// one put.
+pub mod answer;
+mod event_door;
+mod length;
+mod make;
+pub mod one;
+mod put;
+mod raw;
+pub mod records;
+mod row_door;
+pub mod row_lists;
+mod step;

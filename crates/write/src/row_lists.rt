@@ -1,0 +1,167 @@
+// A list of rows, measured, and written into a lent buffer from its first byte on: as the list of records that the rows
+// are, with no record made. A row that is not all there is no event's, as any other that is none: 18.
+ghost use mathlib.Core.Path.{_≡_};
+ghost use Prim.Native.Nat.{_+_, _*_, _≤_};
+ghost use lib.ListN.{take, drop, length};
+ghost use Rattle.smf.specs.Write.{over};
+ghost use Rattle.smf.specs.Lists.{RecordsLegal, listed, check, encodeList, sizeChecked, sizeList, writeList};
+ghost use Rattle.base.specs.Rules.{rulesOf};
+ghost use Rattle.track.specs.List.{capacity};
+ghost use Rattle.rows.specs.Rows.{width};
+ghost use Rattle.rows.specs.RowEvent.{rowRecord};
+ghost use Rattle.rows.specs.RowLists.{rowRecords};
+ghost use Rattle.write.specs.Raw.{judgedSaid, rawLegal};
+ghost use Rattle.write.specs.ListAnswers.{sizeSaid, wroteList};
+use crate::answer::EventLength;
+use crate::answer::ListLength;
+use crate::answer::ListRefused;
+use crate::answer::Size;
+use crate::answer::WroteEvent;
+use crate::answer::WroteList;
+use crate::raw::Judged;
+use crate::row_door::row_raw;
+use crate::step::measured;
+use crate::step::refused;
+use crate::step::written;
+use base::Refusal;
+use base::Rules;
+use base::Running;
+use rows::WIDTH;
+use track::list::CAPACITY;
+
+// The cells of a row that is all there.
+fn cells_at(rows: &[u64], at: usize) -> [u64; WIDTH]
+    requires { ⌜ at + width ≤ length (now rows) ⌝ }
+    ensures { λ r. ⌜ r ≡ take width (drop at (now (rows .entry))) ⌝ }
+{
+    let mut row = [0u64; WIDTH];
+    let mut i: usize = 0;
+    while i < WIDTH {
+        row[i] = rows[at + i];
+        i += 1;
+    }
+    row
+}
+
+// The row that starts at a cell, through its door.
+fn judge_at(rows: &[u64], at: usize, rules: Rules, bytes: &[u8]) -> Judged
+    ensures { λ r. ⌜ judgedSaid (now (bytes .entry)) r ≡ rawLegal (rulesOf rules) (now (bytes .entry)) (rowRecord (take width (drop at (now (rows .entry))))) ⌝ }
+{
+    if rows.len() < WIDTH {
+        return Judged::Refused(Refusal::AboveWidth);
+    }
+    if rows.len() - WIDTH < at {
+        return Judged::Refused(Refusal::AboveWidth);
+    }
+    row_raw(cells_at(rows, at), rules, bytes)
+}
+
+// Of no more rows than a list holds.
+fn measure_rows(
+    rows: &[u64],
+    count: usize,
+    running: Running,
+    rules: Rules,
+    bytes: &[u8],
+) -> ListLength
+    requires { ⌜ count ≤ capacity ⌝ }
+    ensures { λ r. ⌜ sizeSaid r ≡ sizeChecked (running .status) (check (rulesOf rules) (now (bytes .entry)) 0 (take count (rowRecords count (now (rows .entry))))) ⌝ }
+{
+    let mut length: usize = 0;
+    let mut status = running.status;
+    let mut index: usize = 0;
+    while index < count {
+        let judged = judge_at(rows, index * WIDTH, rules, bytes);
+        match measured(judged, Running { status }, bytes) {
+            EventLength::Refused(refusal) => {
+                return ListLength::Refused(ListRefused {
+                    refusal,
+                    index,
+                    running,
+                });
+            }
+            EventLength::Length(size) => {
+                length += size.length;
+                status = size.running.status;
+                index += 1;
+            }
+        }
+    }
+    ListLength::Length(Size {
+        length,
+        running: Running { status },
+    })
+}
+
+pub fn rows_length(
+    rows: &[u64],
+    count: usize,
+    running: Running,
+    rules: Rules,
+    bytes: &[u8],
+) -> ListLength
+    ensures { λ r. ⌜ sizeSaid r ≡ sizeList (rulesOf rules) capacity (running .status) (now (bytes .entry)) (rowRecords count (now (rows .entry))) count ⌝ }
+{
+    if !running.is_valid() {
+        return refused(Refusal::RunningStatus, running);
+    }
+    if CAPACITY < count {
+        return refused(Refusal::TooManyEvents, running);
+    }
+    measure_rows(rows, count, running, rules, bytes)
+}
+
+// One event behind the other, of rows that are legal and have room.
+fn put_rows(
+    rows: &[u64],
+    count: usize,
+    running: Running,
+    rules: Rules,
+    bytes: &[u8],
+    out: &mut [u8],
+)
+    requires { ⌜ RecordsLegal (rulesOf rules) (now bytes) (take count (rowRecords count (now rows))) × (count ≤ capacity) × (length (encodeList (running .status) (listed (now bytes) (rowRecords count (now rows)) count)) ≤ length (now out)) ⌝ }
+    ensures { λ r. ⌜ now (out .exit) ≡ over (encodeList (running .status) (listed (now (bytes .entry)) (rowRecords count (now (rows .entry))) count)) (now (out .entry)) 0 ⌝ }
+{
+    let mut place: usize = 0;
+    let mut status = running.status;
+    let mut index: usize = 0;
+    while index < count {
+        let judged = judge_at(rows, index * WIDTH, rules, bytes);
+        match written(judged, Running { status }, bytes, out, place) {
+            WroteEvent::Refused(_) => return, // never: each was measured
+            WroteEvent::Next(past) => {
+                place = past.next;
+                status = past.running.status;
+                index += 1;
+            }
+        }
+    }
+}
+
+// The room is looked at last.
+pub fn write_rows(
+    rows: &[u64],
+    count: usize,
+    running: Running,
+    rules: Rules,
+    bytes: &[u8],
+    out: &mut [u8],
+) -> WroteList
+    ensures { λ r. ⌜ wroteList r (now (out .exit)) ≡ writeList (rulesOf rules) capacity (running .status) (now (bytes .entry)) (rowRecords count (now (rows .entry))) count (now (out .entry)) ⌝ }
+{
+    match rows_length(rows, count, running, rules, bytes) {
+        ListLength::Refused(n) => WroteList::Refused(n),
+        ListLength::Length(size) => {
+            if out.len() < size.length {
+                return WroteList::Refused(ListRefused {
+                    refusal: Refusal::NoRoom,
+                    index: 0,
+                    running,
+                });
+            }
+            put_rows(rows, count, running, rules, bytes, out);
+            WroteList::Length(size)
+        }
+    }
+}

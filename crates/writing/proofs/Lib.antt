@@ -1,2 +1,0 @@
-pub mod Wrote
-pub mod Identical

@@ -1,2 +1,0 @@
--- What the answers of this crate say, in the paper's terms.
-pub mod Write
