@@ -1,16 +1,49 @@
-// Numbers and bytes of a line, taken out and put in.
-use crate::line::CELLS;
+// The cells of a line's numbers and, behind them, of the numbers that the port answers.
 use rows::WIDTH;
-use track::list::CAPACITY;
 
-// The most bytes that a line has, given or written.
-pub const BYTES: usize = 1024;
+// The most cells of a line.
+pub const LINE: usize = 2048;
+
+// The first number of an answer.
+pub const ANSWER: usize = 2048;
+
+pub const CELLS: usize = 4096;
 
 // The rules of a call that a line gives none for: no bit is set, and none would be looked at.
 pub const NO_RULES: u8 = 0;
 
-// The cells of a full list's rows.
-pub const ROWS: usize = CAPACITY * WIDTH;
+// What a line gives: its letter, its first numbers as bytes and as places, and the cell of the last.
+pub struct Given {
+    pub letter: u8,
+    pub b1: u8,
+    pub b2: u8,
+    pub b3: u8,
+    pub b4: u8,
+    pub b5: u8,
+    pub b6: u8,
+    pub n1: usize,
+    pub n2: usize,
+    pub n3: usize,
+    pub n4: usize,
+    pub last: usize,
+}
+
+pub fn numbers(cells: &[u64; CELLS], last: usize) -> Given {
+    Given {
+        letter: byte(cells[0]),
+        b1: byte(cells[1]),
+        b2: byte(cells[2]),
+        b3: byte(cells[3]),
+        b4: byte(cells[4]),
+        b5: byte(cells[5]),
+        b6: byte(cells[6]),
+        n1: place(cells[1]),
+        n2: place(cells[2]),
+        n3: place(cells[3]),
+        n4: place(cells[4]),
+        last,
+    }
+}
 
 pub fn byte(n: u64) -> u8 {
     (n % 256) as u8
@@ -20,123 +53,100 @@ pub fn wide(n: u8) -> u64 {
     n as u64
 }
 
-// A number of a line; 0 where there is none.
-pub fn number(cells: &[u64], i: usize) -> u64 {
-    if i < cells.len() {
-        return cells[i];
+pub fn place(n: u64) -> usize {
+    n as usize
+}
+
+// The numbers behind a cell, up to the last; none where they are not all there.
+pub fn part(cells: &[u64; CELLS], before: usize, last: usize) -> &[u64] {
+    let all: &[u64] = cells;
+    if CELLS <= last {
+        return &all[CELLS..];
     }
-    0
-}
-
-pub fn number_byte(cells: &[u64], i: usize) -> u8 {
-    byte(number(cells, i))
-}
-
-// A place or a count of a line.
-pub fn place(cells: &[u64], i: usize) -> usize {
-    number(cells, i) as usize
-}
-
-// Some of the numbers; none where they are not all there.
-pub fn part(cells: &[u64], from: usize, to: usize) -> &[u64] {
-    if to <= cells.len() {
-        if from <= to {
-            return &cells[from..to];
-        }
+    if last < before {
+        return &all[CELLS..];
     }
-    let end = cells.len();
-    &cells[end..]
-}
-
-// A row's numbers, from one on; 0 where there are none.
-pub fn row(cells: &[u64], from: usize) -> [u64; WIDTH] {
-    let mut row = [0u64; WIDTH];
-    let mut i: usize = 0;
-    while i < WIDTH {
-        if cells.len() <= from {
-            return row;
-        }
-        if cells.len() - from <= i {
-            return row;
-        }
-        row[i] = cells[from + i];
-        i += 1;
-    }
-    row
+    let start = before + 1;
+    let stop = last + 1;
+    &all[start..stop]
 }
 
 // Numbers as bytes, and how many they are.
-pub fn bytes_of(cells: &[u64], bytes: &mut [u8; BYTES]) -> usize {
-    let mut n: usize = 0;
-    while n < cells.len() {
-        if BYTES <= n {
-            return n;
+pub fn narrow(numbers: &[u64], low: &mut [u8; LINE]) -> usize {
+    let mut i: usize = 0;
+    while i < numbers.len() {
+        if LINE <= i {
+            return i;
         }
-        bytes[n] = byte(cells[n]);
-        n += 1;
+        low[i] = byte(numbers[i]);
+        i += 1;
     }
-    n
+    i
 }
 
-// Bytes put behind the first numbers of an answer. How many numbers there are then.
-pub fn put_bytes(bytes: &[u8], found: &mut [u64; CELLS], at: usize) -> usize {
-    let mut count = at;
+// As many numbers as there is room for, copied to a place.
+pub fn copy(from: &[u64], to: &mut [u64], at: usize) {
+    let mut end = at;
+    let mut i: usize = 0;
+    while i < from.len() {
+        if to.len() <= end {
+            return;
+        }
+        to[end] = from[i];
+        end += 1;
+        i += 1;
+    }
+}
+
+// The first numbers, as a row.
+pub fn row(numbers: &[u64]) -> [u64; WIDTH] {
+    let mut row = [0u64; WIDTH];
+    copy(numbers, &mut row, 0);
+    row
+}
+
+// Four numbers of an answer, with so many before them.
+pub fn put(cells: &mut [u64; CELLS], before: usize, a: u64, b: u64, c: u64, d: u64) {
+    if 4 < before {
+        return;
+    }
+    let at = ANSWER + before;
+    cells[at] = a;
+    cells[at + 1] = b;
+    cells[at + 2] = c;
+    cells[at + 3] = d;
+}
+
+// Bytes as numbers of an answer, with so many before them. How many numbers there are then.
+pub fn put_bytes(bytes: &[u8], cells: &mut [u64; CELLS], before: usize) -> usize {
+    let mut count = before;
     let mut i: usize = 0;
     while i < bytes.len() {
-        if CELLS <= count {
+        if CELLS - ANSWER <= count {
             return count;
         }
-        found[count] = wide(bytes[i]);
+        cells[ANSWER + count] = wide(bytes[i]);
         count += 1;
         i += 1;
     }
     count
 }
 
-// A row put behind the first numbers of an answer. How many numbers there are then.
-pub fn put_row(row: [u64; WIDTH], found: &mut [u64; CELLS], at: usize) -> usize {
-    let mut end = at;
+// The numbers behind a cell, up to the last, and the answer, which has so many: 1 where they are the same, 2 where not.
+pub fn same(cells: &[u64; CELLS], before: usize, last: usize, count: usize) -> u8 {
+    let wanted = part(cells, before, last);
     let mut i: usize = 0;
-    while i < WIDTH {
-        if CELLS <= end {
-            return end;
+    while i < wanted.len() {
+        if CELLS - ANSWER <= i {
+            return 2;
         }
-        found[end] = row[i];
-        end += 1;
-        i += 1;
-    }
-    end
-}
-
-// Rows put behind the first numbers of an answer. How many numbers there are then.
-pub fn put_rows(rows: &[u64; ROWS], count: usize, found: &mut [u64; CELLS], at: usize) -> usize {
-    let mut end = at;
-    let mut i: usize = 0;
-    while i < ROWS {
-        if count <= i / WIDTH {
-            return end;
-        }
-        if CELLS <= end {
-            return end;
-        }
-        found[end] = rows[i];
-        end += 1;
-        i += 1;
-    }
-    end
-}
-
-// Whether the numbers are those that were found.
-pub fn same(cells: &[u64], found: &[u64]) -> bool {
-    if cells.len() != found.len() {
-        return false;
-    }
-    let mut i: usize = 0;
-    while i < cells.len() {
-        if cells[i] != found[i] {
-            return false;
+        if wanted[i] != cells[ANSWER + i] {
+            return 2;
         }
         i += 1;
     }
-    true
+    if i == count {
+        return 1;
+    }
+    2
 }

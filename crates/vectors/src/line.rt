@@ -1,75 +1,61 @@
-// A line of stored answers, byte by byte: a letter for what is asked, the numbers given, `:` and the bytes given, `=`
-// and the numbers answered. Numbers and bytes are hexadecimal, each behind a blank.
+// A line of stored answers: a letter for what is asked, the numbers given, `:` and the bytes given, `=` and the numbers
+// answered. Numbers and bytes are hexadecimal, each behind a blank.
+use crate::cells::CELLS;
+use crate::cells::LINE;
+use crate::cells::wide;
 
-// The most numbers of a line.
-pub const CELLS: usize = 2048;
-
-// A line as far as it was read: its first byte, how many numbers there are, where the bytes begin and where the answer.
+// A line in cells, the letter in the first and then a number in each: the last cell, and those before the bytes and
+// before the answer. Where a sign is missing there is no such part.
 pub struct Line {
-    pub letter: u8,
-    pub count: usize,
+    pub last: usize,
     pub bytes: usize,
     pub answer: usize,
 }
 
-// Of nothing yet. Behind a sign that is missing there is no number.
-pub fn empty() -> Line {
-    Line {
-        letter: 0,
-        count: 0,
-        bytes: CELLS,
-        answer: CELLS,
-    }
-}
-
-// A digit's value; 16 is none.
-fn digit(byte: u8) -> u64 {
-    match byte {
-        b'0'..=b'9' => (byte - b'0') as u64,
-        b'A'..=b'F' => (byte - b'A' + 10) as u64,
-        _ => 16,
-    }
-}
-
 // A number with one digit more. What is no digit spoils it.
-fn longer(number: u64, digit: u64) -> u64 {
-    if 16 <= digit {
-        return 0xFFFF_FFFF_FFFF_FFFF;
-    }
-    number % 0x1000_0000_0000_0000 * 16 + digit
-}
-
-// One number more.
-fn opened(cells: &mut [u64; CELLS], count: usize) -> usize {
-    if CELLS <= count {
-        return count;
-    }
-    cells[count] = 0;
-    count + 1
-}
-
-fn lengthened(cells: &mut [u64; CELLS], count: usize, byte: u8) {
-    if count == 0 {
-        return;
-    }
-    let last = count - 1;
-    if last < CELLS {
-        cells[last] = longer(cells[last], digit(byte));
+fn longer(number: u64, digit: u8) -> u64 {
+    let tens = number % 0x1000_0000_0000_0000 * 16;
+    match digit {
+        b'0'..=b'9' => tens + (digit - b'0') as u64,
+        b'A'..=b'F' => tens + (digit - b'A' + 10) as u64,
+        _ => 0xFFFF_FFFF_FFFF_FFFF,
     }
 }
 
-// One byte more of a line: its letter, a number's beginning, a sign, or the number's next digit.
-pub fn step(cells: &mut [u64; CELLS], line: Line, byte: u8) -> Line {
+// One byte more of a line: a number's beginning, a sign, or the number's next digit.
+fn step(line: Line, byte: u8, cells: &mut [u64; CELLS]) -> Line {
     let mut after = line;
-    if line.letter == 0 {
-        after.letter = byte;
+    let last = line.last;
+    if LINE - 2 <= last {
         return after;
     }
     match byte {
-        b' ' => after.count = opened(cells, line.count),
-        b':' => after.bytes = line.count,
-        b'=' => after.answer = line.count,
-        _ => lengthened(cells, line.count, byte),
+        b' ' => {
+            after.last = last + 1;
+            cells[last + 1] = 0;
+        }
+        b':' => after.bytes = last,
+        b'=' => after.answer = last,
+        _ => cells[last] = longer(cells[last], byte),
     }
     after
+}
+
+// A line put into cells.
+pub fn read(text: &[u8], cells: &mut [u64; CELLS]) -> Line {
+    let mut line = Line {
+        last: 0,
+        bytes: LINE,
+        answer: LINE,
+    };
+    let mut i: usize = 0;
+    while i < text.len() {
+        if i == 0 {
+            cells[0] = wide(text[i]);
+        } else {
+            line = step(line, text[i], cells);
+        }
+        i += 1;
+    }
+    line
 }

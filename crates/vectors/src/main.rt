@@ -1,23 +1,25 @@
-// SMF's printed examples, document 01's worked bytes and stored answers of the Rust, run through the port.
+// SMF's printed examples, document 01's worked bytes and stored answers of the Rust, run through the exported entries.
 // What it must write is in the file stdout beside src/: typed from the documents, with the counts that the lines of the
 // file stdin have. How those lines are made, oracle/README.md says.
 mod cells;
+mod examples;
+mod fields;
 mod line;
-mod lists;
-mod numbers;
+mod lines;
 mod reads;
-mod stored;
 mod text;
-mod tracks;
-mod worked;
+mod times;
 mod writes;
 
-use crate::text::word;
+use crate::cells::CELLS;
+use crate::lines::INPUT;
 
 fn main() {
-    numbers::table();
-    tracks::all();
-    worked::all();
-    word(b"the Rust's answers\n");
-    stored::compare();
+    let mut input = [0u8; INPUT];
+    let mut cells = [0u64; CELLS];
+    examples::numbers(&mut cells);
+    examples::tracks(&mut cells);
+    examples::worked(&mut cells);
+    let length = lines::read(&mut input);
+    lines::stored(&input, length, &mut cells);
 }

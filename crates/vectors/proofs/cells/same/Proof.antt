@@ -1,15 +1,15 @@
 -- `same` ends: each turn is a number on.
 use Prim.Native.Nat.{_-_}
-use borrow.Author.Needs.{needs}
 use lib.ListN.{length}
+use borrow.Author.Needs.{needs}
 use Rattle.vectors.proofs.cells.same.Statement.{statement}
 use Rattle.vectors.proofs.cells.same.Tie as tie
 
 abbrev Inv-loop : tie.InvT-loop
-Inv-loop cells found i₀ i = Unit
+Inv-loop cells before last count wanted i₀ i = Unit
 
 abbrev μ-loop : tie.MeasureT-loop
-μ-loop cells found i₀ i = length cells - i
+μ-loop cells before last count wanted i₀ i = length wanted - i
 
 pub same-spec : {M : Type 1} → statement M
 same-spec =
@@ -17,7 +17,7 @@ same-spec =
     (tie.spec
     Inv-loop
     μ-loop
-    (λ c. search needs)
+    (λ c κs. search needs)
     (λ c. tt)
     (λ c. search needs)
     (λ c. search needs)
@@ -26,5 +26,9 @@ same-spec =
     (λ c. search needs)
     (λ c. search needs)
     (λ c. search needs)
+    (λ c. search needs)
+    (λ c. search needs)
+    (λ c. search needs)
     (λ c. tt)
+    (λ c. search needs)
     (λ c. search needs))

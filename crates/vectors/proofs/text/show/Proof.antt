@@ -1,15 +1,13 @@
--- `show` ends: each turn is a byte on.
-use Prim.Native.Nat.{_-_}
+-- `show` ends: each turn is a byte fewer.
 use borrow.Author.Needs.{needs}
-use lib.ListN.{length}
 use Rattle.vectors.proofs.text.show.Statement.{statement}
 use Rattle.vectors.proofs.text.show.Tie as tie
 
 abbrev Inv-loop : tie.InvT-loop
-Inv-loop bytes i₀ i = Unit
+Inv-loop cells before n i₀ left₀ t6 i left = Unit
 
 abbrev μ-loop : tie.MeasureT-loop
-μ-loop bytes i₀ i = length bytes - i
+μ-loop cells before n i₀ left₀ t6 i left = left
 
 pub show-spec : {M : Type 1} → statement M
 show-spec =
@@ -19,7 +17,14 @@ show-spec =
     μ-loop
     (λ c. tt)
     (λ c. search needs)
+    (λ c. search needs)
+    (λ c. search needs)
     (λ c κs. search needs)
+    (λ c. search needs)
+    (λ c. search needs)
+    (λ c. search needs)
+    (λ c κs. search needs)
+    (λ c. search needs)
     (λ c. search needs)
     (λ c. search needs)
     (λ c. tt)

@@ -1,18 +1,18 @@
--- `bytes_of` ends: each turn is a number on.
+-- `narrow` ends: each turn is a number on.
 use Prim.Native.Nat.{_-_}
-use borrow.Author.Needs.{needs}
 use lib.ListN.{length}
-use Rattle.vectors.proofs.cells.bytes_of.Statement.{statement}
-use Rattle.vectors.proofs.cells.bytes_of.Tie as tie
+use borrow.Author.Needs.{needs}
+use Rattle.vectors.proofs.cells.narrow.Statement.{statement}
+use Rattle.vectors.proofs.cells.narrow.Tie as tie
 
 abbrev Inv-loop : tie.InvT-loop
-Inv-loop cells bytes₀ n₀ bytes n = Unit
+Inv-loop numbers low₀ i₀ low i = Unit
 
 abbrev μ-loop : tie.MeasureT-loop
-μ-loop cells bytes₀ n₀ bytes n = length cells - n
+μ-loop numbers low₀ i₀ low i = length numbers - i
 
-pub bytes-of-spec : {M : Type 1} → statement M
-bytes-of-spec =
+pub narrow-spec : {M : Type 1} → statement M
+narrow-spec =
     tie.close
     (tie.spec
     Inv-loop
