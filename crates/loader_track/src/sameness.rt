@@ -5,7 +5,7 @@ ghost use Rattle.smf.specs.Event.{Same};
 ghost use Rattle.smf.specs.Lists.{SameList};
 ghost use Rattle.track.specs.List.{capacity};
 ghost use Rattle.rows.specs.RowEvent.{calledRow};
-ghost use Rattle.rows.specs.RowLists.{rowRecords};
+ghost use Rattle.rows.specs.RowLists.{calledRows};
 ghost use Rattle.same.specs.OfRows.{rowsAsked, listsAsked};
 ghost use Rattle.loader_track.specs.Same.{yes, answered, left, Handed};
 use rows::WIDTH;
@@ -63,7 +63,7 @@ pub extern "C" fn apk_list_same(
     bytes_b: &[u8],
     same: &mut u8,
 ) -> u8
-    ensures { λ r. ⌜ Handed r (now (same .entry)) (now (same .exit)) (listsAsked capacity (now («rows_a» .entry)) «count_a» (now («rows_b» .entry)) «count_b») (SameList (now («bytes_a» .entry)) (rowRecords «count_a» (now («rows_a» .entry))) «count_a» (now («bytes_b» .entry)) (rowRecords «count_b» (now («rows_b» .entry))) «count_b») ⌝ }
+    ensures { λ r. ⌜ Handed r (now (same .entry)) (now (same .exit)) (listsAsked capacity (now («rows_a» .entry)) «count_a» (now («rows_b» .entry)) «count_b») (SameList (now («bytes_a» .entry)) (calledRows «count_a» (now («rows_a» .entry))) «count_a» (now («bytes_b» .entry)) (calledRows «count_b» (now («rows_b» .entry))) «count_b») ⌝ }
 {
     let answer = same_row_lists(rows_a, count_a, bytes_a, rows_b, count_b, bytes_b);
     hand_out(answer, same)

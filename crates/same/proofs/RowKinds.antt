@@ -17,7 +17,7 @@ use Rattle.smf.specs.Place.{Span}
 use Rattle.smf.specs.Signed.{signedByte}
 use Rattle.smf.specs.Smpte.{time}
 use Rattle.smf.specs.Kind as kind
-use Rattle.smf.specs.Event.{mapMeta, mapKind, metaLoad, kindLoad, noSpan, bytesOf}
+use Rattle.smf.specs.Event.{mapMeta, mapKind, loadOr, metaCarries, carries, kindLoad, noSpan, bytesOf}
 use Rattle.smf.proofs.Signed.{signed-back}
 use Rattle.midi.specs.declared.MidiMessage.the-variants as midi
 use Rattle.meta.specs.declared.OptionU16.the-variants as option
@@ -148,7 +148,7 @@ abbrev Load : List ℕ → kind.Kind Span → Type 0
 Load s k = kindLoad [] (mapKind (bytesOf s) k) ≡ bytesOf s (place (kindRow k))
 
 midi-load : (s : List ℕ) (channel : ℕ) (m : kind.Message) → Load s (kind.midi channel m)
-unfolding mapKind kindLoad bytesOf
+unfolding mapKind carries bytesOf
 midi-load s channel (kind.noteOff key vel) = refl
 midi-load s channel (kind.noteOn key vel) = refl
 midi-load s channel (kind.aftertouch key vel) = refl
@@ -158,7 +158,7 @@ midi-load s channel (kind.channelAftertouch vel) = refl
 midi-load s channel (kind.pitchBend raw) = refl
 
 meta-load : (s : List ℕ) (m : kind.Meta Span) → Load s (kind.meta m)
-unfolding mapKind mapMeta kindLoad metaLoad bytesOf
+unfolding mapKind mapMeta carries metaCarries bytesOf
 meta-load s (kind.trackNumber n) = refl
 meta-load s kind.noTrackNumber = refl
 meta-load s (kind.text t p) = refl
@@ -173,7 +173,7 @@ meta-load s (kind.sequencerSpecific p) = refl
 meta-load s (kind.unknown t p) = refl
 
 kind-load : (s : List ℕ) (k : kind.Kind Span) → Load s k
-unfolding mapKind kindLoad
+unfolding mapKind carries
 kind-load s (kind.midi channel message) = midi-load s channel message
 kind-load s (kind.sysEx p) = refl
 kind-load s (kind.escape p) = refl

@@ -12,8 +12,8 @@ ghost use Rattle.smf.specs.Kind as kind;
 ghost use Rattle.smf.specs.Signed.{signedByte};
 ghost use Rattle.base.specs.Rules.{rulesOf};
 ghost use Rattle.meta.specs.Meta.{spanOf};
-ghost use Rattle.rows.specs.RowEvent.{areBytes, timeFits, fieldsFit, rowNumber, rowMessage, rowMeta, rowKind, rowRecord};
-ghost use Rattle.write.specs.Raw.{dataOf, madeSaid, judgedSaid, rawKind, rawLegal};
+ghost use Rattle.rows.specs.RowEvent.{areBytes, timeFits, fieldsFit, rowNumber, rowMessage, rowMeta, rowKind, rowJudged};
+ghost use Rattle.write.specs.Raw.{dataOf, madeSaid, judgedSaid, rawKind, rawJudged};
 use crate::make::channel;
 use crate::make::key;
 use crate::make::narrow;
@@ -224,7 +224,7 @@ fn row_made(
 }
 
 pub fn row_raw(row: [u64; WIDTH], rules: Rules, bytes: &[u8]) -> Judged
-    ensures { λ r. ⌜ judgedSaid (now (bytes .entry)) r ≡ rawLegal (rulesOf rules) (now (bytes .entry)) (rowRecord row) ⌝ }
+    ensures { λ r. ⌜ judgedSaid (now (bytes .entry)) r ≡ rawJudged (rowJudged (rulesOf rules) (now (bytes .entry)) row) ⌝ }
 {
     let delta = row[0];
     if 0x1000_0000 <= delta {
