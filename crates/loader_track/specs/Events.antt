@@ -22,11 +22,6 @@ abbrev pub readUsed : ReadAt → ℕ
 readUsed (readsAt e) = e .used
 readUsed (refusedAt n used running) = used
 
--- the running status after the event, or that the refusal leaves
-abbrev pub readRunning : ReadAt → ℕ
-readRunning (readsAt e) = e .running
-readRunning (refusedAt n used running) = running
-
 -- how long the bytes of a row's event are, and the running status after it; document 01: 1, then 18, 19, 22, 23
 abbrev pub rowSize : Rules → ℕ → List ℕ → List ℕ → Answer Size
 rowSize rules running payload row = sizeEvent running (rowJudged rules payload row)

@@ -7,7 +7,7 @@ ghost use Rattle.track.specs.List.{capacity};
 ghost use Rattle.rows.specs.RowEvent.{calledRow};
 ghost use Rattle.rows.specs.RowLists.{calledRows};
 ghost use Rattle.same.specs.OfRows.{rowsAsked, listsAsked};
-ghost use Rattle.loader_track.specs.Same.{yes, answered, left, Handed};
+ghost use Rattle.loader_track.specs.Same.{yes, samenessAnswered, samenessLeft, Handed};
 use rows::WIDTH;
 use same::of_rows::Sameness;
 use same::of_rows::same_row_lists;
@@ -25,8 +25,8 @@ fn said(told: bool) -> u8
 
 // What was told is handed out, and the answer is 0; a refusal is answered, and leaves what was lent as it came.
 fn hand_out(answer: Sameness, same: &mut u8) -> u8
-    ensures answer { λ r. ⌜ r ≡ answered answer ⌝ }
-    ensures same { λ r. ⌜ now (same .exit) ≡ left answer (now (same .entry)) ⌝ }
+    ensures answer { λ r. ⌜ r ≡ samenessAnswered answer ⌝ }
+    ensures same { λ r. ⌜ now (same .exit) ≡ samenessLeft answer (now (same .entry)) ⌝ }
 {
     match answer {
         Sameness::Told(told) => {

@@ -17,7 +17,7 @@ use Rattle.rows.specs.RowEvent.{eventOfRow, rowJudged}
 use Rattle.rows.proofs.IsRow.{is-none}
 use Rattle.base.specs.Refusal.{numberOf}
 use Rattle.base.specs.declared.Refusal.{Refusal}
-use Rattle.write.specs.Raw.{rawJudged, isSound, wireOf, madeSaid, judgedSaid, Told}
+use Rattle.write.specs.Raw.{rawJudged, isSound, wireOf, madeSaid, judgedSaid, LetThrough}
 use Rattle.write.specs.declared.raw.Raw.{Raw}
 use Rattle.write.specs.declared.raw.Made.{Made}
 use Rattle.write.specs.declared.raw.Made.the-variants as made
@@ -67,7 +67,7 @@ raw-number (gives e) q = let z : _≡_ {A = ℕ} 0 1 = cc in absurd (omega arith
 raw-number (refuses n) q = let w : n ≡ 0 = cc in ap refuses w
 
 -- so that an event which a door let through is sound
-pub told : (bytes : List ℕ) (j : Answer (Event (List ℕ))) → (j ≡ refuses 0 → ⊥) → (d : Judged) → judgedSaid bytes d ≡ rawJudged j → Told bytes d
+pub told : (bytes : List ℕ) (j : Answer (Event (List ℕ))) → (j ≡ refuses 0 → ⊥) → (d : Judged) → judgedSaid bytes d ≡ rawJudged j → LetThrough bytes d
 told bytes j numbered (judged.Refused n) h = tt
 told bytes j numbered (judged.Raw r) h =
     by-test (ltb (r .delta .0) (2 ^ 28) && isSound bytes (r .raw))
@@ -75,7 +75,7 @@ told bytes j numbered (judged.Raw r) h =
     (λ t. absurd (numbered (raw-number j (rw t at h))))
 
 -- and says what it is
-pub said-raw : (bytes : List ℕ) (j : Judged) (e : RawEvent) → j ≡ judged.Raw e → Told bytes j → judgedSaid bytes j ≡ gives (rawEvent (e .delta .0) (wireOf bytes (e .raw)))
+pub said-raw : (bytes : List ℕ) (j : Judged) (e : RawEvent) → j ≡ judged.Raw e → LetThrough bytes j → judgedSaid bytes j ≡ gives (rawEvent (e .delta .0) (wireOf bytes (e .raw)))
 said-raw bytes j e is t =
-    let p : Told bytes (judged.Raw e) = rw is at t in
+    let p : LetThrough bytes (judged.Raw e) = rw is at t in
     rw (is, lt-ltb (e .delta .0) (2 ^ 28) (p .0), p .1)

@@ -14,7 +14,7 @@ use Rattle.smf.specs.Lists.{Checked, allLegal, illegal, check, encodeList, list
 use Rattle.smf.proofs.Answer.{pick-test}
 use Rattle.smf.proofs.ListLegality.{check-legal}
 use Rattle.smf.proofs.ListWrites.{write-invalid, write-many, write-illegal, write-full, write-fits}
-use Rattle.write.specs.ListAnswers.{Fits, Stands}
+use Rattle.write.specs.ListAnswers.{RoomFor, InFront}
 
 module _ (most running : ℕ) (judged : List (Answer (Event (List ℕ)))) (count : ℕ) where
   pub size-invalid : isRunning running ≡ false → unsized running 1 0 ≡ sizeList most running judged count
@@ -74,7 +74,7 @@ module _ (most running : ℕ) (judged : List (Answer (Event (List ℕ)))) (count
       pub sized-few : count ≤ most
       sized-few = sized .few
 
-      pub sized-fits : n ≤ length buffer → Fits running (take count judged) (length buffer)
+      pub sized-fits : n ≤ length buffer → RoomFor running (take count judged) (length buffer)
       sized-fits h = let s = sized in (s .events, s .legal, rw (← s .size) h)
 
       pub sized-full : length buffer < n → listLeft running buffer 20 0 ≡ writeList most running judged count buffer
@@ -82,7 +82,7 @@ module _ (most running : ℕ) (judged : List (Answer (Event (List ℕ)))) (count
           let s = sized in
           sym (write-full most running judged count buffer (s .valid) (s .few) (s .events) (s .legal) (rw (← s .size) h))
 
-      pub sized-put : n ≤ length buffer → (end : List ℕ) → Stands running (take count judged) buffer end
+      pub sized-put : n ≤ length buffer → (end : List ℕ) → InFront running (take count judged) buffer end
           → record { buffer = end; answer = wrote n; running = after } ≡ writeList most running judged count buffer
       sized-put h end stands =
           let s = sized in

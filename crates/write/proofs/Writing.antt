@@ -15,7 +15,7 @@ use Rattle.smf.proofs.ListLegality.{given-once, given-length}
 use Rattle.smf.proofs.ListWrites.{encode-behind, after-behind}
 use Rattle.write.specs.Raw.{rawJudged}
 use Rattle.write.specs.Wrote.{wroteEvent, writeRaw}
-use Rattle.write.specs.ListAnswers.{Fits, Stands}
+use Rattle.write.specs.ListAnswers.{RoomFor, InFront}
 use Rattle.write.specs.declared.answer.Past.{Past}
 use Rattle.write.specs.declared.answer.WriteRefused.{WriteRefused}
 use Rattle.write.specs.declared.answer.WroteEvent.{WroteEvent}
@@ -49,7 +49,7 @@ module _ (running : ℕ) (js : List (Answer (Event (List ℕ)))) (before : List 
     pub after : status ≡ listAfter running (take i events)
     pub buffer : out ≡ over (encodeList running (take i events)) before 0
 
-  pub going-first : Fits running js (length before) → Going before 0 running 0
+  pub going-first : RoomFor running js (length before) → Going before 0 running 0
   unfolding encodeList listAfter
   going-first f = record { events = f .0; legal = f .1; room = f .2; within = omega arith; stands = refl; after = refl; buffer = refl }
 
@@ -70,7 +70,7 @@ module _ (running : ℕ) (js : List (Answer (Event (List ℕ)))) (before : List 
     pub going-length : length out ≡ length before
     going-length = ap length (g .buffer) ∙ length-over (front i) before 0 (omega (arith, front-shorter i, g .room))
 
-    pub going-last : i ≡ length js → Stands running js before out
+    pub going-last : i ≡ length js → InFront running js before out
     going-last e es same =
         let all : take i (g .events) ≡ es = ap (λ (k : ℕ). take k (g .events)) (e ∙ counted) ∙ take-length (g .events) ∙ given-once (g .events) es (sym (g .legal) ∙ same) in
         g .buffer ∙ ap (λ (l : List (Event (List ℕ))). over (encodeList running l) before 0) all

@@ -24,9 +24,9 @@ wroteList (wrote.Refused n) buffer = listLeft (n .running .status) buffer (numbe
 -- What putting a list goes by
 
 -- events that were all judged legal, and whose bytes have room
-abbrev pub Fits : ℕ → List (Answer (Event (List ℕ))) → ℕ → Type 0
-Fits running judged room = (es : List (Event (List ℕ))) × (judged ≡ map gives es) × (length (encodeList running es) ≤ room)
+abbrev pub RoomFor : ℕ → List (Answer (Event (List ℕ))) → ℕ → Type 0
+RoomFor running judged room = (es : List (Event (List ℕ))) × (judged ≡ map gives es) × (length (encodeList running es) ≤ room)
 
 -- their bytes stand at the front of the buffer, over what was there before
-abbrev pub Stands : ℕ → List (Answer (Event (List ℕ))) → List ℕ → List ℕ → Type 0
-Stands running judged before after = (es : List (Event (List ℕ))) → judged ≡ map gives es → after ≡ over (encodeList running es) before 0
+abbrev pub InFront : ℕ → List (Answer (Event (List ℕ))) → List ℕ → List ℕ → Type 0
+InFront running judged before after = (es : List (Event (List ℕ))) → judged ≡ map gives es → after ≡ over (encodeList running es) before 0

@@ -116,9 +116,9 @@ rawAfter (raw.Fixed t own) = 0
 -- What the steps behind the doors go by
 
 -- an event that a door let through has a short delta, and its payload is there
-abbrev pub Told : List ℕ → Judged → Type 0
-Told bytes (judged.Raw e) = (e .delta .0 < 2 ^ 28) × (isSound bytes (e .raw) ≡ true)
-Told bytes (judged.Refused n) = Unit
+abbrev pub LetThrough : List ℕ → Judged → Type 0
+LetThrough bytes (judged.Raw e) = (e .delta .0 < 2 ^ 28) × (isSound bytes (e .raw) ≡ true)
+LetThrough bytes (judged.Refused n) = Unit
 
 -- a range that is inside the bytes lent, and short enough for a number
 pub record Inside (bytes : List ℕ) (span : Span) : Type 0 where

@@ -8,7 +8,7 @@ ghost use Rattle.smf.specs.Lists.{recordsJudged, check, sizeChecked, sizeList, 
 ghost use Rattle.base.specs.Rules.{rulesOf};
 ghost use Rattle.track.specs.List.{capacity, recordOf};
 ghost use Rattle.write.specs.Raw.{judgedSaid, rawJudged};
-ghost use Rattle.write.specs.ListAnswers.{sizeSaid, wroteList, Fits, Stands};
+ghost use Rattle.write.specs.ListAnswers.{sizeSaid, wroteList, RoomFor, InFront};
 use crate::answer::EventLength;
 use crate::answer::ListLength;
 use crate::answer::ListRefused;
@@ -82,8 +82,8 @@ pub fn list_length(list: EventList, running: Running, rules: Rules, bytes: &[u8]
 // One event behind the other, of a list that is legal and has room.
 fn put_records(list: EventList, running: Running, rules: Rules, bytes: &[u8], out: &mut [u8])
     requires { ⌜ list .count ≤ capacity ⌝ }
-    requires { ⌜ Fits (running .status) (take (list .count) (recordsJudged (rulesOf rules) (now bytes) (map recordOf (list .records)))) (length (now out)) ⌝ }
-    ensures { λ r. ⌜ Stands (running .status) (take (list .count) (recordsJudged (rulesOf rules) (now (bytes .entry)) (map recordOf (list .records)))) (now (out .entry)) (now (out .exit)) ⌝ }
+    requires { ⌜ RoomFor (running .status) (take (list .count) (recordsJudged (rulesOf rules) (now bytes) (map recordOf (list .records)))) (length (now out)) ⌝ }
+    ensures { λ r. ⌜ InFront (running .status) (take (list .count) (recordsJudged (rulesOf rules) (now (bytes .entry)) (map recordOf (list .records)))) (now (out .entry)) (now (out .exit)) ⌝ }
 {
     let count = list.count;
     let mut place: usize = 0;

@@ -36,6 +36,7 @@ use header::SmpteTime;
 use header::rate::TriedFps;
 use number::u28;
 use rows::WIDTH;
+use rows::back::are_bytes;
 
 // The data bytes of a channel message's row: a bend is one number there.
 pub struct Data {
@@ -74,24 +75,6 @@ fn message(number: u64, a: u64, b: u64, c: u64) -> Made
     }
     let data = data_of(number, b, c);
     channel(number, a, data.pair, data.a, data.b)
-}
-
-fn are_bytes(a: u64, b: u64, c: u64, d: u64, e: u64) -> bool
-    ensures { λ r. ⌜ r ≡ areBytes a b c d e ⌝ }
-{
-    if 256 <= a {
-        return false;
-    }
-    if 256 <= b {
-        return false;
-    }
-    if 256 <= c {
-        return false;
-    }
-    if 256 <= d {
-        return false;
-    }
-    e < 256
 }
 
 fn number(there: u64, number: u64) -> Made

@@ -10,7 +10,7 @@ ghost use Rattle.rows.specs.Rows.{width};
 ghost use Rattle.rows.specs.RowEvent.{rowJudged};
 ghost use Rattle.rows.specs.RowLists.{rowsJudged};
 ghost use Rattle.write.specs.Raw.{judgedSaid, rawJudged};
-ghost use Rattle.write.specs.ListAnswers.{sizeSaid, wroteList, Fits, Stands};
+ghost use Rattle.write.specs.ListAnswers.{sizeSaid, wroteList, RoomFor, InFront};
 use crate::answer::EventLength;
 use crate::answer::ListLength;
 use crate::answer::ListRefused;
@@ -120,8 +120,8 @@ fn put_rows(
     out: &mut [u8],
 )
     requires { ⌜ count ≤ capacity ⌝ }
-    requires { ⌜ Fits (running .status) (take count (rowsJudged (rulesOf rules) (now bytes) count (now rows))) (length (now out)) ⌝ }
-    ensures { λ r. ⌜ Stands (running .status) (take count (rowsJudged (rulesOf rules) (now (bytes .entry)) count (now (rows .entry)))) (now (out .entry)) (now (out .exit)) ⌝ }
+    requires { ⌜ RoomFor (running .status) (take count (rowsJudged (rulesOf rules) (now bytes) count (now rows))) (length (now out)) ⌝ }
+    ensures { λ r. ⌜ InFront (running .status) (take count (rowsJudged (rulesOf rules) (now (bytes .entry)) count (now (rows .entry)))) (now (out .entry)) (now (out .exit)) ⌝ }
 {
     let mut place: usize = 0;
     let mut status = running.status;
