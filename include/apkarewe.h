@@ -6,8 +6,8 @@
  * back.
  *
  * What it needs. No heap, no files, nothing of libc but memcpy, memmove and memset. Nothing is kept between calls, so
- * that calls from several threads do not meet. The stack, as measured on x86-64: 14 KB for apk_list_read, 4 for
- * apk_list_write, under 1 KB for the rest.
+ * that calls from several threads do not meet. The stack, read off the machine code for x86-64 by tools/stack: 10.6 KB
+ * for apk_list_read, under half a KB for each of the rest, beside what memcpy and its kind take.
  *
  * What an entry answers. A uint8_t: 0 where it accepts, else the number of a refusal (enum apk_answer). An entry that
  * refuses nothing answers its value. After a refusal every value and every byte that was lent is as it came, unless
@@ -19,16 +19,17 @@
  * the bytes lent; one past their end is like their end.
  *
  * The running status is the status byte that the next event may leave out: 0x80 to 0xEF, or 0 for none. A track begins
- * with none.
+ * with none. Any other number is an invalid running status, which reading and writing refuse by 1.
  *
  * What is proved. Of each entry, for all numbers and bytes that it can be given: it ends, it reads and writes within
  * the slices only, its answer is the one that its definition gives, and so is what each lent value and each lent byte
- * holds at the end, after a refusal too. The definition is named with each entry; the definitions stand in
- * crates/smf/specs and in the specs of the crates rows, write, same, loader and loader_track, and are written
- * from Standard MIDI Files 1.0 and document 01, not from the code. Proved of the definitions: what is written is read back, strictly
- * and leniently, whatever follows it; every event that is read is legal; no bytes that are read strictly as an event
- * are shorter than those that are written for it. Not proved, but compared in runs: that midly 0.5.3 answers alike
- * (docs/DIFFERENCES.md). Assumed: Rattle's prover and compiler, LLVM, and that the caller keeps to "Pointers" above. */
+ * holds at the end, after a refusal too. The definition is named with each entry: smf.Lists.listAt is listAt in
+ * crates/smf/specs/Lists.antt. Definitions are written from Standard MIDI Files 1.0 and from the project's rules
+ * (docs/RULES.md), not from the code. Proved of the definitions: what is written is read back, strictly and leniently,
+ * whatever follows it; every event that is read is legal; no bytes that are read strictly as an event are shorter than
+ * those that are written for it. Not proved, but compared in runs: that midly 0.5.3 answers alike, see
+ * docs/DIFFERENCES.md.
+ * Assumed: Rattle's prover and compiler, LLVM, and that the caller keeps to "Pointers" above. */
 #ifndef APKAREWE_H
 #define APKAREWE_H
 
@@ -44,14 +45,15 @@ enum apk_rules {
     APK_STRICT = 1 /* reading refuses what it else takes as it stands: 2, 3, 11, 12 */
 };
 
-/* What entries answer: document 01's table of refusals, and the two that are none. */
+/* What entries answer: the numbers of the table of refusals (docs/RULES.md, "Refusal numbers"), and two that are no
+ * refusal's. */
 enum apk_answer {
     APK_ACCEPTED = 0,
-    APK_RUNNING_STATUS = 1,       /* running status neither none (0) nor 80..EF */
+    APK_RUNNING_STATUS = 1,       /* running status invalid: neither none (0) nor 80..EF */
     APK_NUMBER_CUT_OFF = 2,       /* strict: a number cut off by the end */
     APK_NUMBER_CONTINUES = 3,     /* strict: fourth byte of a number continues */
     APK_NO_STATUS = 4,            /* no byte where the status stands */
-    APK_NO_RUNNING_STATUS = 5,    /* data byte there, no running status */
+    APK_NO_RUNNING_STATUS = 5,    /* data byte there, and the running status is none */
     APK_SYSTEM_COMMON = 6,        /* status F1..F6 */
     APK_SYSTEM_REALTIME = 7,      /* status F8..FE */
     APK_CHANNEL_DATA_SHORT = 8,   /* channel data too short */
@@ -72,7 +74,8 @@ enum apk_answer {
     APK_NO_ROOM = 20,             /* write: no room; apk_list_read alone: cells too few for the rows read */
     APK_TOO_MANY_EVENTS = 21,     /* write: count above APK_LIST_ROWS */
     APK_PAYLOAD_TOO_LONG = 22,    /* write: payload above 268,435,455 bytes */
-    APK_UNKNOWN_NAMED = 23,       /* write: Unknown that would read as a named kind or be refused as 59 */
+    APK_UNKNOWN_NAMED = 23,       /* write: Unknown that would be read as a named kind, or refused as a short key
+                                     signature */
     APK_FULL = 255                /* apk_list_read alone: APK_LIST_ROWS events read, and bytes left. No refusal */
 };
 
@@ -138,7 +141,7 @@ enum apk_kind {
  * where an event was refused, and the events before it stand: rows, count, place and after are set as ever. 20 where
  * the cells are too few for the events read, and only then everything is as it came.
  * Payloads are start and length in these bytes, which are not copied. An empty slice is an empty list.
- * Definition: listAt of smf, laid out by sheetOf of sheet. */
+ * Definition: smf.Lists.listAt, laid out by rows.Sheet.sheetOf. */
 uint8_t apk_list_read(const uint8_t *bytes, size_t bytes_len, size_t at, uint8_t running, uint8_t rules,
                       uint64_t *rows, size_t cells, size_t *count, size_t *place, uint8_t *after);
 
@@ -150,22 +153,22 @@ uint8_t apk_list_read(const uint8_t *bytes, size_t bytes_len, size_t at, uint8_t
  *   index                 after a refusal the index of the first illegal event, 0 for 1, 20 and 21; else as it came
  * Refuses 1, then 21, then the first illegal event by 18, 19, 22 or 23. A row that is no event's (no such kind, a field
  * that no event can hold, or not all of its cells there) is refused by 18.
- * Definition: sheetSize, that is sizeList of smf over rowRecords of rows. */
+ * Definition: loader_track.Lists.sheetSize, that is smf.Lists.sizeList of the rows' events. */
 uint8_t apk_list_length(const uint64_t *rows, size_t cells, size_t count, const uint8_t *payload, size_t payload_len,
                         uint8_t running, uint8_t rules, size_t *length, uint8_t *after, size_t *index);
 
 /* Writes so many rows from out[0] on, in the shortest form, as apk_list_length measures them.
  *   out, out_len  where the bytes go; nothing behind them is changed, and after a refusal nothing at all
  * The rest, and the refusals, as there; last of all 20 where out is too short. An empty list fits in no bytes.
- * Definition: sheetWritten, that is writeList of smf over rowRecords of rows. */
+ * Definition: loader_track.Lists.sheetWritten, that is smf.Lists.writeList of the rows' events. */
 uint8_t apk_list_write(const uint64_t *rows, size_t cells, size_t count, const uint8_t *payload, size_t payload_len,
                        uint8_t running, uint8_t rules, uint8_t *out, size_t out_len, size_t *length, uint8_t *after,
                        size_t *index);
 
 /* Whether two lists are the same, each over the bytes that its payloads stand in: counts, deltas, kinds, fields and
- * payload bytes agree; where payloads start does not count. *same is 1 where they are, 0 where they are not. Refuses 21
- * where a count is above APK_LIST_ROWS, then 18 where a row of either is no event's, or its cells are not all there; then *same is
- * as it came. Definition: SameList of smf, listsAsked of same. */
+ * payload bytes agree; where payloads start does not count. *same is 1 where they are, 0 where they are not.
+ * Refuses 21 where a count is above APK_LIST_ROWS, then 18 where a row of either is no event's, or its cells are not
+ * all there; then *same is as it came. Definition: smf.Lists.SameList, asked by same.OfRows.listsAsked. */
 uint8_t apk_list_same(const uint64_t *rows_a, size_t cells_a, size_t count_a,
                       const uint8_t *bytes_a, size_t bytes_a_len,
                       const uint64_t *rows_b, size_t cells_b, size_t count_b,
@@ -176,123 +179,125 @@ uint8_t apk_list_same(const uint64_t *rows_a, size_t cells_a, size_t count_a,
 /* Reads the event at a place, from a running status: its row, how many bytes it uses, the running status after it.
  * Refuses 1 to 14; then the row is as it came, *used is 0, and *after the running status that the refused event leaves:
  * as given for 1, 4 to 7, and for 2 and 3 in a delta; its own status for 8 and 9; none for the others.
- * Definition: eventAt of smf, laid out by eventRow of rows. */
+ * Definition: smf.Event.eventAt, laid out by rows.Rows.eventRow. */
 uint8_t apk_event_read(const uint8_t *bytes, size_t bytes_len, size_t at, uint8_t running, uint8_t rules,
                        uint64_t row[APK_CELLS], size_t *used, uint8_t *after);
 
 /* How many bytes a row's event has when written from a running status, and the running status after it.
- * Refuses 1, 18, 19, 22, 23; then both are as they came. Definition: sizeEvent of write. */
+ * Refuses 1, 18, 19, 22, 23; then both are as they came. Definition: write.Size.sizeEvent of the row's event. */
 uint8_t apk_event_length(const uint64_t row[APK_CELLS], const uint8_t *payload, size_t payload_len, uint8_t running,
                          uint8_t rules, size_t *length, uint8_t *after);
 
 /* Writes a row's event at a place of out, in the shortest form: *next is the place after it, *after the running status.
  * Refuses 1, 18, 19, 22, 23, 20; then every byte and *next are as they came, and *after is the running status as given.
- * Definition: writeEvent of smf. */
+ * Definition: smf.Event.writeEvent of the row's event. */
 uint8_t apk_event_write(const uint64_t row[APK_CELLS], const uint8_t *payload, size_t payload_len, uint8_t running,
                         uint8_t rules, uint8_t *out, size_t out_len, size_t at, size_t *next, uint8_t *after);
 
-/* Whether two events are the same, by the rule of apk_list_same: *same is 1 where they are, 0 where they are not. Refuses
- * 18 where a row is no event's; then *same is as it came. Definition: Same of smf, rowsAsked of same. */
+/* Whether two events are the same, by the rule of apk_list_same: *same is 1 where they are, 0 where they are not.
+ * Refuses 18 where a row is no event's; then *same is as it came.
+ * Definition: smf.Event.Same, asked by same.OfRows.rowsAsked. */
 uint8_t apk_event_same(const uint64_t row_a[APK_CELLS], const uint8_t *bytes_a, size_t bytes_a_len,
                        const uint64_t row_b[APK_CELLS], const uint8_t *bytes_b, size_t bytes_b_len, uint8_t *same);
 
 /* Numbers and payloads ------------------------------------------------------------------------------------------- */
 
 /* Reads the variable-length number at a place: its value, and the place after it. Refuses 2, 3.
- * Definition: numberAt. */
+ * Definition: smf.Place.numberAt. */
 uint8_t apk_number_read(const uint8_t *bytes, size_t bytes_len, size_t at, uint8_t rules,
                         uint32_t *value, size_t *next);
 
 /* How many bytes the shortest form of a number has, 1 to 4; 4 above 268,435,455. Refuses nothing.
- * Definition: the length of encodeNumber. */
+ * Definition: the length of smf.Number.encodeNumber. */
 size_t apk_number_length(uint32_t value);
 
 /* Writes a number at a place of out, in the shortest form: *next is the place after it. Refuses 18, 20.
- * Definition: write of numberBytes. */
+ * Definition: smf.Write.write of smf.Write.numberBytes. */
 uint8_t apk_number_write(uint32_t value, uint8_t *out, size_t out_len, size_t at, size_t *next);
 
 /* Reads the payload at a place, a number and so many bytes: where these start, and how many. The place after them is
- * the sum. Refuses 2, 3, 11. Definition: payloadAt. */
+ * the sum. Refuses 2, 3, 11. Definition: smf.Place.payloadAt. */
 uint8_t apk_payload_read(const uint8_t *bytes, size_t bytes_len, size_t at, uint8_t rules,
                          size_t *start, size_t *length);
 
 /* Writes a range of the payload bytes, with its number in front, at a place of out: *next is the place after it.
- * Refuses 19, 22, 20. Definition: write of payloadBytes. */
+ * Refuses 19, 22, 20. Definition: smf.Write.write of smf.Write.payloadBytes. */
 uint8_t apk_payload_write(const uint8_t *payload, size_t payload_len, size_t start, size_t length,
                           uint8_t *out, size_t out_len, size_t at, size_t *next);
 
 /* Header fields -------------------------------------------------------------------------------------------------- */
 
 /* The format that the bytes begin with, 0 to 2; what follows its two bytes is not looked at. Refuses 17, 15.
- * Definition: readFormat. */
+ * Definition: smf.Header.readFormat. */
 uint8_t apk_format_read(const uint8_t *bytes, size_t bytes_len, uint8_t *format);
 
-/* The two bytes of a format. Refuses 15. Definition: formatBytes. */
+/* The two bytes of a format. Refuses 15. Definition: loader.Fields.encodeFormat. */
 uint8_t apk_format_encode(uint8_t format, uint8_t bytes[2]);
 
 /* The timing that the bytes begin with. *rate 0: *ticks in a beat, *subframe 0. Any other rate: *subframe ticks in a
- * frame, *ticks 0. Refuses 17, 16. Definition: readTiming. */
+ * frame, *ticks 0. Refuses 17, 16. Definition: smf.Header.readTiming. */
 uint8_t apk_timing_read(const uint8_t *bytes, size_t bytes_len, uint16_t *ticks, uint8_t *rate, uint8_t *subframe);
 
 /* The two bytes of a timing, given as it is read. Refuses 16, and 18 for ticks above 32,767.
- * Definition: encodeTiming. */
+ * Definition: smf.Header.encodeTiming of loader.Fields.timingGiven. */
 uint8_t apk_timing_encode(uint16_t ticks, uint8_t rate, uint8_t subframe, uint8_t bytes[2]);
 
 /* Rates and SMPTE times ------------------------------------------------------------------------------------------ */
 /* A rate is its number: 24, 25, 29 (30 drop frame), 30. A time is hour below 24, minute and second below 60, frame
  * below the rate's number, subframe below 100, and the rate. Each entry that takes a time refuses 16 first. */
 
-/* The rate of a code's low two bits. Refuses nothing. Definition: rateOfCode. */
+/* The rate of a code's low two bits. Refuses nothing. Definition: smf.Smpte.rateOfCode. */
 uint8_t apk_fps_from_code(uint8_t code);
 
-/* The two-bit code of a rate. Refuses 16. Definition: codeOfRate. */
+/* The two-bit code of a rate. Refuses 16. Definition: smf.Smpte.codeOfRate. */
 uint8_t apk_fps_as_code(uint8_t rate, uint8_t *code);
 
-/* The rate of a whole number of frames in a second. Refuses 16. Definition: toRate. */
+/* The rate of a whole number of frames in a second. Refuses 16. Definition: smf.Smpte.toRate. */
 uint8_t apk_fps_from_int(uint8_t raw, uint8_t *rate);
 
-/* The frames in a second at a rate, 30 / 1.001 for 29. Refuses 16. Definition: rateFloat. */
+/* The frames in a second at a rate, 30 / 1.001 for 29. Refuses 16. Definition: smf.Seconds.rateFloat. */
 uint8_t apk_fps_as_f32(uint8_t rate, float *frames);
 
-/* Whether six numbers are a time: 0 if so. Refuses 16, 13. Definition: toTime. */
+/* Whether six numbers are a time: 0 if so. Refuses 16, 13. Definition: smf.Smpte.toTime. */
 uint8_t apk_smpte_new(uint8_t hour, uint8_t minute, uint8_t second, uint8_t frame, uint8_t subframe, uint8_t rate,
                       uint8_t rules);
 
 /* The time of a message's five bytes, the first of which holds hour and rate code: the six numbers. Refuses 13.
- * Definition: timeOf. */
+ * Definition: smf.Smpte.timeOf. */
 uint8_t apk_smpte_read(uint8_t first, uint8_t minute, uint8_t second, uint8_t frame, uint8_t subframe,
                        uint8_t rules, uint8_t time[6]);
 
-/* The five bytes of a time. Refuses 16, 18. Definition: encodeTime. */
+/* The five bytes of a time. Refuses 16, 18. Definition: smf.Smpte.encodeTime. */
 uint8_t apk_smpte_encode(uint8_t hour, uint8_t minute, uint8_t second, uint8_t frame, uint8_t subframe, uint8_t rate,
                          uint8_t rules, uint8_t bytes[5]);
 
 /* A time's seconds, with frames and subframes as their fraction, without hours and minutes. Refuses 16, 13.
- * Definition: secondsOf, operation for operation. */
+ * Definition: smf.Seconds.secondsOf, operation for operation. */
 uint8_t apk_smpte_second_f32(uint8_t hour, uint8_t minute, uint8_t second, uint8_t frame, uint8_t subframe,
                              uint8_t rate, uint8_t rules, float *seconds);
 
-/* A time's place in the day, in subframes. Refuses 16, 13. Definition: position. */
+/* A time's place in the day, in subframes. Refuses 16, 13. Definition: smf.Smpte.position. */
 uint8_t apk_smpte_position(uint8_t hour, uint8_t minute, uint8_t second, uint8_t frame, uint8_t subframe, uint8_t rate,
                            uint8_t rules, uint32_t *subframes);
 
 /* Bends ---------------------------------------------------------------------------------------------------------- */
 /* A raw bend is 0 to 16,383, no bend at 8,192; signed, it is -8,192 to 8,191; as a float, that by 8,192, exactly. */
 
-/* The raw bends of full bend downwards, of none, and of full bend upwards. They refuse nothing. Definition: rawOf. */
+/* The raw bends of full bend downwards, of no bend, and of full bend upwards. They refuse nothing.
+ * Definition: smf.Bend.rawBend. */
 uint16_t apk_bend_min_raw_value(void);
 uint16_t apk_bend_mid_raw_value(void);
 uint16_t apk_bend_max_raw_value(void);
 
-/* The raw bend of a signed one; beyond the range the nearest end. Refuses nothing. Definition: rawOf. */
+/* The raw bend of a signed one; beyond the range the nearest end. Refuses nothing. Definition: smf.Bend.rawBend. */
 uint16_t apk_bend_from_int(int16_t bend);
 
 /* The raw bend of a float: clamped to -1..1, times 8,192, the fraction dropped. NaN gives the lowest, 1.0 the highest.
- * They refuse nothing. Definition: rawOfFloat. */
+ * They refuse nothing. Definition: smf.Bend.rawBendOfFloat. */
 uint16_t apk_bend_from_f32(float bend);
 uint16_t apk_bend_from_f64(double bend);
 
-/* A raw bend as a signed one, and as a float. Refuse 18. Definitions: askBend, askFloat. */
+/* A raw bend as a signed one, and as a float. Refuse 18. Definitions: smf.Bend.askBend, smf.Bend.askFloat. */
 uint8_t apk_bend_as_int(uint16_t raw, int16_t *bend);
 uint8_t apk_bend_as_f32(uint16_t raw, float *bend);
 uint8_t apk_bend_as_f64(uint16_t raw, double *bend);

@@ -3,6 +3,7 @@ use Prim.Native.Nat.{ℕ}
 use Rattle.base.specs.declared.Refusal.{Refusal}
 use Rattle.base.specs.declared.Refusal.the-variants as refusal
 
+-- the number of each refusal in the table
 abbrev pub numberOf : Refusal → ℕ
 numberOf refusal.RunningStatus = 1
 numberOf refusal.NumberCutOff = 2

@@ -1,6 +1,7 @@
--- The rules as the definitions take them.
+-- The rules of a call, as the definitions take them.
 use Rattle.smf.specs.Answer as smf
 use Rattle.base.specs.declared.Rules.{Rules}
 
+-- field for field
 abbrev pub rulesOf : Rules → smf.Rules
 rulesOf rules = record { strict = rules .strict }

@@ -1,4 +1,6 @@
-// What the restricted numbers do. A field may be above its width: readers never make such a one, and writers refuse it by 18.
+// What the restricted numbers do, each in four functions as in the Rust: `max_value` is the largest; `new` keeps the low
+// bits of a number and drops the rest; `try_from` refuses a number above the width by 18; `as_int` gives the number back.
+// The field is public, so that a value may be above its width: readers never make such a one, and writers refuse it by 18.
 ghost use mathlib.Core.Path.{_≡_};
 ghost use Rattle.smf.specs.Width.{lowBits, largest, tryWidth};
 ghost use Rattle.base.specs.Restricted.{triedU2, triedU4, triedU7, triedU14, triedU15, triedU24};

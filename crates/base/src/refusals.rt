@@ -1,10 +1,10 @@
-// The refusals' numbers in document 01's table.
+// The refusals' numbers: document 01, "Refusal numbers".
 ghost use mathlib.Core.Path.{_≡_};
 ghost use Rattle.base.specs.Refusal.{numberOf};
 use crate::Refusal;
 
 impl Refusal {
-    // The number in the table.
+    // The number in the table, which is what a caller in C is told.
     pub fn number(self) -> u8
         ensures { λ r. ⌜ r ≡ numberOf self ⌝ }
     {

@@ -1,10 +1,10 @@
-// The running status.
+// Which running statuses there are: every reader and writer asks this first, and refuses an invalid one by 1.
 ghost use mathlib.Core.Path.{_≡_};
 ghost use Rattle.smf.specs.Running.{isRunning};
 use crate::Running;
 
 impl Running {
-    // Whether it is none or a channel status, 80..EF.
+    // Whether it is valid: none, which is 0, or a channel status, 80..EF.
     pub fn is_valid(self) -> bool
         ensures { λ r. ⌜ r ≡ isRunning (self .status) ⌝ }
     {

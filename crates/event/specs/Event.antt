@@ -12,12 +12,14 @@ use Rattle.event.specs.declared.TrackEvent.{TrackEvent}
 use Rattle.event.specs.declared.read.ReadEvent.{ReadEvent}
 use Rattle.event.specs.declared.read.ReadEvent.the-variants as read
 
+-- the kind of each case
 abbrev pub kindOf : TrackEventKind → kind.Kind Span
 kindOf (track.Midi channel message) = kind.midi (channel .0) (messageOf message)
 kindOf (track.SysEx r) = kind.sysEx (spanOf r)
 kindOf (track.Escape r) = kind.escape (spanOf r)
 kindOf (track.Meta m) = kind.meta (metaOf m)
 
+-- an event: its delta as a plain number, and its kind
 abbrev pub eventOf : TrackEvent → smf.Event Span
 eventOf e = smf.event (e .delta .0) (kindOf (e .kind))
 
@@ -25,6 +27,7 @@ eventOf e = smf.event (e .delta .0) (kindOf (e .kind))
 abbrev pub eventUsed : smf.Event Span → ℕ → ℕ → smf.ReadAt
 eventUsed e used running = smf.readsAt (record { event = e; used = used; running = running })
 
+-- what `TrackEvent::read` answers
 abbrev pub eventRead : ReadEvent → smf.ReadAt
 eventRead (read.Event e) = eventUsed (eventOf (e .event)) (e .used) (e .running .status)
 eventRead (read.Refused n) = smf.refusedAt (numberOf (n .refusal)) (n .used) (n .running .status)

@@ -1,3 +1,3 @@
--- Events and what their reader answers, in the paper's terms.
+-- Events and what their reader answers, in the terms of the definitions.
 pub mod Event
 pub mod Lent

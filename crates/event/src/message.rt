@@ -1,5 +1,5 @@
-// A channel message of its status and its data: the Rust's `MidiMessage::read`, which panics outside 80..EF. The reader of
-// events asks for no other status.
+// A channel message of its status and its data: the Rust's `MidiMessage::read`, which panics outside 80..EF. It stands
+// here and is private, since the reader of events asks for no other status, and a public function could not demand that.
 ghost use mathlib.Core.Path.{_≡_};
 ghost use Prim.Native.Nat.{_≤_, _<_};
 ghost use Rattle.smf.proofs.Reading.{messageWith};
@@ -35,7 +35,7 @@ pub fn read(status: u8, first: u7, second: u7) -> MidiMessage
         0xC => MidiMessage::ProgramChange { program: first },
         0xD => MidiMessage::ChannelAftertouch { vel: first },
         _ => {
-            // Note the little-endian order, contrasting with the big-endian order of the files
+            // a bend has its low seven bits first, where all else in a file has the high byte first
             let lsb = first.0 as u16;
             let msb = second.0 as u16;
             MidiMessage::PitchBend {

@@ -1,4 +1,5 @@
-// Reading one event. The Rust's slice that shrinks is a place by value, and its `&mut Option<u8>` a running status that is handed back.
+// Reading one event, in the order of its bytes. Where the Rust shrinks a slice, a place goes in and the bytes used come
+// out; where it updates an option, the running status is handed back.
 ghost use mathlib.Core.Path.{_≡_};
 ghost use mathlib.Core.Bool.{true};
 ghost use Prim.Native.Nat.{_-_, _≤_, _<_};
@@ -30,29 +31,41 @@ use number::varlen::ReadNumber;
 // An event that was read, the bytes used, and the running status after it. What both answers have stands first in
 // each, and so at one place in memory: a compiler then keeps it in registers.
 pub struct EventAt {
+    // how many bytes it has, from its delta on
     pub used: usize,
+    // the running status after it
     pub running: Running,
+    // the event
     pub event: TrackEvent,
 }
 
-// A refusal, the bytes used, which are none, and the running status that it leaves.
+// A refusal of an event. It uses no byte, and says so, as document 01 does.
 pub struct EventRefused {
+    // 0
     pub used: usize,
+    // the running status that the Rust is left with
     pub running: Running,
+    // why
     pub refusal: Refusal,
 }
 
+// What reading an event answers.
 pub enum ReadEvent {
+    // an event, the bytes used and the running status after it
     Event(EventAt),
+    // 1 to 14, and what is left
     Refused(EventRefused),
 }
 
-// An event that began at a place, with its delta.
+// An event of which the delta was read.
 struct Begun {
+    // the place where it began
     start: usize,
+    // its delta
     delta: u28,
 }
 
+// The answer for an event that is refused and leaves a running status.
 fn refused(refusal: Refusal, status: u8) -> ReadEvent
     ensures { λ r. ⌜ eventRead r ≡ smf.refusedAt (numberOf refusal) 0 status ⌝ }
 {
@@ -63,7 +76,7 @@ fn refused(refusal: Refusal, status: u8) -> ReadEvent
     })
 }
 
-// An event that ends before a place.
+// The answer for an event that ends before a place and leaves a running status.
 fn event(begun: Begun, kind: TrackEventKind, next: usize, status: u8) -> ReadEvent
     requires { ⌜ begun .start ≤ next ⌝ }
     ensures { λ r. ⌜ eventRead r ≡ eventUsed (smf.event (begun .delta .0) (kindOf kind)) (next - begun .start) status ⌝ }
@@ -76,7 +89,7 @@ fn event(begun: Begun, kind: TrackEventKind, next: usize, status: u8) -> ReadEve
     })
 }
 
-// How many bytes there are from a place on.
+// How many bytes there are from a place on; none from a place past the end.
 fn bytes_from(raw: &[u8], at: usize) -> usize
     ensures { λ r. ⌜ r ≡ length (now (raw .entry)) - at ⌝ }
 {
@@ -86,7 +99,8 @@ fn bytes_from(raw: &[u8], at: usize) -> usize
     raw.len() - at
 }
 
-// 80..EF, whose data stands at a place: they have set the running status.
+// A channel message, whose status is 80..EF and whose data stands at a place. It has set the running status, so that a
+// refusal leaves its status; too few data bytes come before one with bit 7 set.
 fn channel(raw: &[u8], at: usize, begun: Begun, status: u8, rules: Rules) -> ReadEvent
     requires { ⌜ (Sited (now raw) (begun .start) at) × (0x80 ≤ status) × (status < 0xF0) ⌝ }
     ensures { λ r. ⌜ eventRead r ≡ smf.placed (now (raw .entry)) (begun .start) (smf.nameRaw (rulesOf rules) (readChannel status (begun .delta .0) (drop at (now (raw .entry))))) ⌝ }
@@ -122,7 +136,7 @@ fn channel(raw: &[u8], at: usize, begun: Begun, status: u8, rules: Rules) -> Rea
     )
 }
 
-// FF: it has cleared the running status.
+// A meta message, from its type byte on. FF has cleared the running status, so that a refusal leaves none.
 fn meta(raw: &[u8], at: usize, begun: Begun, rules: Rules) -> ReadEvent
     requires { ⌜ Sited (now raw) (begun .start) at ⌝ }
     ensures { λ r. ⌜ eventRead r ≡ smf.placed (now (raw .entry)) (begun .start) (smf.nameRaw (rulesOf rules) (readMeta (rulesOf rules) (begun .delta .0) (drop at (now (raw .entry))))) ⌝ }
@@ -136,7 +150,7 @@ fn meta(raw: &[u8], at: usize, begun: Begun, rules: Rules) -> ReadEvent
     }
 }
 
-// F0 and F7: they have cleared the running status.
+// A system exclusive message or an escape, from its payload on. F0 and F7 have cleared the running status.
 fn payload(raw: &[u8], at: usize, begun: Begun, status: u8, rules: Rules) -> ReadEvent
     requires { ⌜ (Sited (now raw) (begun .start) at) × (at ≤ length (now raw)) ⌝ }
     ensures { λ r. ⌜ eventRead r ≡ smf.placed (now (raw .entry)) (begun .start) (smf.nameRaw (rulesOf rules) (withPayload (begun .delta .0) (system status) (readPayload (rulesOf rules) (drop at (now (raw .entry)))))) ⌝ }
@@ -154,7 +168,8 @@ fn payload(raw: &[u8], at: usize, begun: Begun, status: u8, rules: Rules) -> Rea
     }
 }
 
-// F0..FF, from behind that byte on.
+// An event whose status byte is F0..FF, from behind that byte on. F1..F6 and F8..FE are refused, and leave the running
+// status as it is.
 fn status_kind(
     raw: &[u8],
     at: usize,
@@ -178,7 +193,7 @@ fn status_kind(
     }
 }
 
-// From behind the delta on.
+// What stands behind the delta: a status byte, or a data byte under running status.
 fn kind(raw: &[u8], at: usize, begun: Begun, running: Running, rules: Rules) -> ReadEvent
     requires { ⌜ (Sited (now raw) (begun .start) at) × (isRunning (running .status) ≡ true) ⌝ }
     ensures { λ r. ⌜ eventRead r ≡ smf.placed (now (raw .entry)) (begun .start) (smf.nameRaw (rulesOf rules) (readBody (rulesOf rules) (running .status) (begun .delta .0) (drop at (now (raw .entry))))) ⌝ }
@@ -191,7 +206,8 @@ fn kind(raw: &[u8], at: usize, begun: Begun, running: Running, rules: Rules) -> 
     if 0xF0 <= byte {
         return status_kind(raw, at + 1, begun, byte, running, rules);
     }
-    // A channel message: the two ways meet here, for whether there is a status byte cannot be foreseen.
+    // A channel message. The two ways, with a status byte of its own and without, meet here, so that no branch is taken
+    // on which it is: a processor cannot foresee that.
     let mut status = running_status;
     let mut data = at;
     if 0x80 <= byte {
@@ -205,7 +221,7 @@ fn kind(raw: &[u8], at: usize, begun: Begun, running: Running, rules: Rules) -> 
 }
 
 impl TrackEvent {
-    // The event at a place, from a running status.
+    // Reads the event at a place, from a running status, which is looked at first: 1 where it is invalid.
     pub fn read(raw: &[u8], at: usize, running: Running, rules: Rules) -> ReadEvent
         ensures { λ r. ⌜ eventRead r ≡ smf.eventAt (rulesOf rules) (running .status) (now (raw .entry)) at ⌝ }
     {

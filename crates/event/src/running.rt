@@ -1,4 +1,5 @@
-// Reading with a lent running status, the Rust's `&mut Option<u8>`: one thin entry over the reader by value.
+// Reading with a running status that is lent and updated, as the Rust's reader has it: a thin function over the reader
+// by value.
 ghost use Rattle.smf.specs.Event.{eventAt};
 ghost use Rattle.base.specs.Rules.{rulesOf};
 ghost use Rattle.event.specs.Lent.{Leaves};
@@ -7,13 +8,16 @@ use crate::read::ReadEvent;
 use base::Rules;
 use base::Running;
 
-// What the reader answers, and beside it the running status that it leaves.
+// What the reader answers, with the running status that it leaves taken out of either case.
 pub struct Step {
+    // the answer
     pub read: ReadEvent,
+    // the running status after the event, or that the refusal leaves
     pub running: Running,
 }
 
-// The event at a place, by value: all that the entry below has to look into.
+// Reads the event at a place, by value. All that has to be told apart is told apart here, so that the function below has
+// no branch.
 pub fn read_step(raw: &[u8], at: usize, running: Running, rules: Rules) -> Step
     ensures { λ r. ⌜ Leaves (eventAt (rulesOf rules) (running .status) (now (raw .entry)) at) (r .read) (r .running) ⌝ }
 {
@@ -36,7 +40,8 @@ pub fn read_step(raw: &[u8], at: usize, running: Running, rules: Rules) -> Step
     }
 }
 
-// The event at a place. The call updates the running status that it is lent, also when it refuses. It has no branch, since it is proved by a walk.
+// Reads the event at a place, and updates the running status that it is lent, also when it refuses. It has no branch,
+// since its proof walks through it by hand.
 pub fn read_event<'a, 'b>(
     raw: &'a [u8],
     at: usize,

@@ -1,4 +1,4 @@
--- The types of this crate and its answers, in the paper's numbers.
+-- The types of this crate and what its functions answer, in the terms of the definitions.
 pub mod Fps
 pub mod Format
 pub mod Timing

@@ -1,26 +1,30 @@
-// The format field of a header: the order in which tracks are played.
+// The format field of a header: how the tracks of a file belong together.
 ghost use mathlib.Core.Path.{_≡_};
 ghost use Rattle.smf.specs.Header.{readFormat, formatBytes};
 ghost use Rattle.header.specs.Format.{formatOf, formatRead};
 use crate::field;
 use base::Refusal;
 
+// How the tracks of a file belong together.
 pub enum Format {
-    // one track
+    // 0: there is one track
     SingleTrack,
-    // tracks that are played at the same time
+    // 1: tracks that are played at the same time
     Parallel,
-    // tracks that are songs of their own
+    // 2: tracks that are songs of their own, played one after the other
     Sequential,
 }
 
 // What `read` answers.
 pub enum ReadFormat {
+    // the format that the bytes begin with
     Read(Format),
+    // 17 under two bytes, 15 above 2
     Refused(Refusal),
 }
 
 impl Format {
+    // Reads the format that the bytes begin with; what follows its two bytes is not looked at.
     pub fn read(raw: &[u8]) -> ReadFormat
         ensures { λ r. ⌜ formatRead r ≡ readFormat (now (raw .entry)) ⌝ }
     {
@@ -36,6 +40,7 @@ impl Format {
         }
     }
 
+    // The two bytes of the format.
     pub fn encode(self) -> [u8; 2]
         ensures { λ r. ⌜ r ≡ formatBytes (formatOf self) ⌝ }
     {

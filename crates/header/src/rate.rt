@@ -1,4 +1,4 @@
-// The four rates of SMPTE times.
+// The four rates of SMPTE times, as codes, as numbers and as floats.
 ghost use mathlib.Core.Path.{_≡_};
 ghost use Rattle.smf.specs.Smpte.{rateOfCode, codeOfRate, toRate};
 ghost use Rattle.smf.specs.Seconds.{rateFloat};
@@ -10,12 +10,15 @@ use base::u2;
 
 // What `from_int` answers.
 pub enum TriedFps {
+    // the rate of that number
     Made(Fps),
+    // 16: there is no such rate
     Refused(Refusal),
 }
 
 impl Fps {
-    // The rate of a two-bit code. A code above its width counts by its low two bits.
+    // The rate of a two-bit code. The Rust's function refuses nothing, so that a code above its width counts by its low
+    // two bits.
     pub fn from_code(code: u2) -> Fps
         ensures { λ r. ⌜ rateOf r ≡ rateOfCode (lowBits 2 (code .0)) ⌝ }
     {
@@ -28,6 +31,7 @@ impl Fps {
         }
     }
 
+    // The two-bit code of the rate, as the first byte of a time holds it.
     pub fn as_code(self) -> u2
         ensures { λ r. ⌜ r .0 ≡ codeOfRate (rateOf self) ⌝ }
     {
@@ -39,6 +43,7 @@ impl Fps {
         }
     }
 
+    // The rate of a number of frames in a second.
     pub fn from_int(raw: u8) -> TriedFps
         ensures { λ r. ⌜ triedFps r ≡ toRate raw ⌝ }
     {
@@ -51,7 +56,7 @@ impl Fps {
         }
     }
 
-    // The frames in a second, to the next lower whole number.
+    // The rate's number: the frames in a second, 29 where they are 29.97.
     pub fn as_int(self) -> u8
         ensures { λ r. ⌜ r ≡ rateOf self ⌝ }
     {
@@ -63,6 +68,7 @@ impl Fps {
         }
     }
 
+    // The frames in a second as a float, which for 29 is no whole number.
     pub fn as_f32(self) -> f32
         ensures { λ r. ⌜ r ≡ rateFloat (rateOf self) ⌝ }
     {

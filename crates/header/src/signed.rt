@@ -3,6 +3,7 @@ ghost use mathlib.Core.Path.{_≡_};
 ghost use lib.IntN.{negℤ};
 ghost use Rattle.smf.specs.Signed.{signedByte, byteOfSigned};
 
+// The signed number of a byte in two's complement: of a key's sharps and flats.
 pub fn from_byte(byte: u8) -> i8
     ensures { λ r. ⌜ r ≡ signedByte byte ⌝ }
 {
@@ -13,6 +14,7 @@ pub fn from_byte(byte: u8) -> i8
     }
 }
 
+// The byte of a signed number in two's complement.
 pub fn to_byte(number: i8) -> u8
     ensures { λ r. ⌜ r ≡ byteOfSigned number ⌝ }
 {

@@ -1,4 +1,5 @@
-// SMPTE times of day. The fields are public, so a value may be outside its ranges: it is refused where it is used.
+// SMPTE times of day: built, read, written, and asked for their seconds and their position. A time outside its ranges is
+// refused wherever it is used.
 ghost use mathlib.Core.Path.{_≡_};
 ghost use lib.ListN.{getD};
 ghost use Rattle.smf.specs.Smpte.{time, isTime, toTime, timeOf, encodeTime, position};
@@ -14,29 +15,38 @@ use base::u2;
 
 // What `new` and `read` answer.
 pub enum TriedSmpteTime {
+    // a time inside its ranges
     Made(SmpteTime),
+    // 13: it is outside them
     Refused(Refusal),
 }
 
-// What `encode` answers: the five bytes in their order.
+// What `encode` answers.
 pub enum EncodedSmpteTime {
+    // the five bytes in their order: hour and rate, minute, second, frame, subframe
     Bytes(u8, u8, u8, u8, u8),
+    // 18: the time is outside its ranges, and could not be read back
     Refused(Refusal),
 }
 
 // What `second_f32` answers.
 pub enum AskedSecond {
+    // the seconds
     Is(f32),
+    // 13: the time is outside its ranges
     Refused(Refusal),
 }
 
-// What `position` answers: subframes since the day began.
+// What `position` answers.
 pub enum AskedPosition {
+    // subframes since the day began
     Is(u32),
+    // 13: the time is outside its ranges
     Refused(Refusal),
 }
 
 impl SmpteTime {
+    // A time of its six fields, where each is inside its range.
     pub fn new(
         hour: u8,
         minute: u8,
@@ -63,7 +73,7 @@ impl SmpteTime {
         }
     }
 
-    // Whether every field is inside its range.
+    // Whether every field is inside its range, the frame below the rate's number. No rule touches times yet.
     pub fn in_range(self, rules: Rules) -> bool
         ensures { λ r. ⌜ r ≡ isTime (rulesOf rules) (smpteTimeOf self) ⌝ }
     {
@@ -83,44 +93,50 @@ impl SmpteTime {
         self.subframe < 100
     }
 
+    // The hour, 0 to 23.
     pub fn hour(self) -> u8
         ensures { λ r. ⌜ r ≡ self .hour ⌝ }
     {
         self.hour
     }
 
+    // The minute, 0 to 59.
     pub fn minute(self) -> u8
         ensures { λ r. ⌜ r ≡ self .minute ⌝ }
     {
         self.minute
     }
 
+    // The second, 0 to 59.
     pub fn second(self) -> u8
         ensures { λ r. ⌜ r ≡ self .second ⌝ }
     {
         self.second
     }
 
-    // What it means depends on `fps`.
+    // The frame: which part of a second that is depends on the rate.
     pub fn frame(self) -> u8
         ensures { λ r. ⌜ r ≡ self .frame ⌝ }
     {
         self.frame
     }
 
+    // The subframe, hundredths of a frame.
     pub fn subframe(self) -> u8
         ensures { λ r. ⌜ r ≡ self .subframe ⌝ }
     {
         self.subframe
     }
 
+    // The rate.
     pub fn fps(self) -> Fps
         ensures { λ r. ⌜ r ≡ self .fps ⌝ }
     {
         self.fps
     }
 
-    // Seconds with the frames and subframes as their fraction, without hours and minutes.
+    // The seconds with frames and subframes as their fraction, without hours and minutes: the Rust's operations in the
+    // Rust's order, so that the float is the same bit for bit.
     pub fn second_f32(self, rules: Rules) -> AskedSecond
         ensures { λ r. ⌜ askedSecond r ≡ secondsOf (rulesOf rules) (smpteTimeOf self) ⌝ }
     {
@@ -133,7 +149,7 @@ impl SmpteTime {
         AskedSecond::Is(seconds)
     }
 
-    // The place in the day, in subframes.
+    // How many subframes of the day have passed, which the Rust does not have.
     pub fn position(self, rules: Rules) -> AskedPosition
         ensures { λ r. ⌜ askedPosition r ≡ position (rulesOf rules) (smpteTimeOf self) ⌝ }
     {
@@ -147,7 +163,7 @@ impl SmpteTime {
         AskedPosition::Is(subframes)
     }
 
-    // Hour and rate code share the first byte.
+    // Reads a time of the five bytes of a message. Hour and rate code share the first, whose bit 7 is not looked at.
     pub fn read(bytes: [u8; 5], rules: Rules) -> TriedSmpteTime
         ensures { λ r. ⌜ triedSmpteTime r ≡ timeOf (rulesOf rules) (getD bytes 0 0) (getD bytes 1 0) (getD bytes 2 0) (getD bytes 3 0) (getD bytes 4 0) ⌝ }
     {
@@ -157,6 +173,7 @@ impl SmpteTime {
         SmpteTime::new(hour, bytes[1], bytes[2], bytes[3], bytes[4], fps, rules)
     }
 
+    // The five bytes of the time.
     pub fn encode(self, rules: Rules) -> EncodedSmpteTime
         ensures { λ r. ⌜ encodedSmpteTime r ≡ encodeTime (rulesOf rules) (smpteTimeOf self) ⌝ }
     {

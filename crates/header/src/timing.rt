@@ -1,4 +1,4 @@
-// The timing field of a header: ticks in a beat, or frames in a second and ticks in a frame.
+// The timing field of a header: what a tick is.
 ghost use mathlib.Core.Path.{_≡_};
 ghost use Rattle.smf.specs.Header.{readTiming, encodeTiming};
 ghost use Rattle.header.specs.Timing.{timingOf, timingRead, timingEncoded};
@@ -9,26 +9,32 @@ use crate::signed;
 use base::Refusal;
 use base::u15;
 
+// What a tick is.
 pub enum Timing {
-    // ticks in a beat
+    // a part of a beat: how many ticks a beat has
     Metrical(u15),
-    // frames in a second, and ticks in a frame
+    // a part of a second: how many frames a second has, and ticks a frame
     Timecode(Fps, u8),
 }
 
 // What `read` answers.
 pub enum ReadTiming {
+    // the timing that the bytes begin with
     Read(Timing),
+    // 17 under two bytes, 16 where there is no such rate
     Refused(Refusal),
 }
 
-// What `encode` answers: the two bytes, the high one first.
+// What `encode` answers.
 pub enum EncodedTiming {
+    // the two bytes, the high one first
     Bytes(u8, u8),
+    // 18: the ticks are above 15 bits
     Refused(Refusal),
 }
 
 impl Timing {
+    // Reads the timing that the bytes begin with; what follows its two bytes is not looked at.
     pub fn read(raw: &[u8]) -> ReadTiming
         ensures { λ r. ⌜ timingRead r ≡ readTiming (now (raw .entry)) ⌝ }
     {
@@ -40,7 +46,7 @@ impl Timing {
         if high < 128 {
             return ReadTiming::Read(Timing::Metrical(u15(field::word(high, low))));
         }
-        // The high byte is minus the rate.
+        // The high byte is minus the rate. It is negated at 16 bits, where minus 128 has an opposite.
         let rate = signed::negated(signed::from_byte(high)) as u8;
         match Fps::from_int(rate) {
             TriedFps::Made(fps) => ReadTiming::Read(Timing::Timecode(fps, low)),
@@ -48,6 +54,7 @@ impl Timing {
         }
     }
 
+    // The two bytes of the timing.
     pub fn encode(self) -> EncodedTiming
         ensures { λ r. ⌜ timingEncoded r ≡ encodeTiming (timingOf self) ⌝ }
     {

@@ -11,12 +11,13 @@ use meta::MetaMessage;
 use meta::OptionU16;
 use midi::MidiMessage;
 
-// A payload, by its place in the input.
+// A payload: its start and its length in the input.
 fn load(range: Range) {
     number(range.start as u64);
     number(range.length as u64);
 }
 
+// A kind that is its payload alone.
 fn loaded(name: &[u8], range: Range) {
     word(name);
     load(range);
@@ -29,12 +30,13 @@ fn one(name: &[u8], channel: u8, a: u8) {
     byte(a);
 }
 
-// A channel message with two.
+// A channel message with two data bytes.
 fn two(name: &[u8], channel: u8, a: u8, b: u8) {
     one(name, channel, a);
     byte(b);
 }
 
+// A channel message; a bend is signed.
 fn midi(channel: u8, message: MidiMessage) {
     match message {
         MidiMessage::NoteOff { key, vel } => two(b" NoteOff", channel, key.0, vel.0),
@@ -54,6 +56,7 @@ fn midi(channel: u8, message: MidiMessage) {
     }
 }
 
+// A track number, or `none` where it is missing.
 fn track_number(n: OptionU16) {
     word(b" TrackNumber");
     match n {
@@ -62,7 +65,7 @@ fn track_number(n: OptionU16) {
     }
 }
 
-// The rate stands last.
+// An SMPTE time, its rate last.
 fn smpte_offset(time: SmpteTime) {
     let fps = time.fps;
     word(b" SmpteOffset");
@@ -74,6 +77,7 @@ fn smpte_offset(time: SmpteTime) {
     byte(fps.as_int());
 }
 
+// The four bytes of a time signature.
 fn time_signature(a: u8, b: u8, c: u8, d: u8) {
     word(b" TimeSignature");
     byte(a);
@@ -82,6 +86,7 @@ fn time_signature(a: u8, b: u8, c: u8, d: u8) {
     byte(d);
 }
 
+// A key signature: the sharps with their sign, then 1 for minor and 0 for major.
 fn key_signature(sharps: i8, minor: bool) {
     word(b" KeySignature");
     if sharps < 0 {
@@ -96,6 +101,7 @@ fn key_signature(sharps: i8, minor: bool) {
     }
 }
 
+// A meta message.
 fn meta(message: MetaMessage) {
     match message {
         MetaMessage::TrackNumber(n) => track_number(n),
@@ -133,6 +139,7 @@ fn meta(message: MetaMessage) {
     }
 }
 
+// The kind of an event.
 pub fn kind(what: TrackEventKind) {
     match what {
         TrackEventKind::Midi { channel, message } => midi(channel.0, message),

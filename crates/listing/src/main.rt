@@ -1,4 +1,4 @@
-// The listing program of document 01: standard input, read leniently as one list, a line for each event.
+// Document 01, "Listing program": standard input, read leniently as one list from no running status, a line for each event.
 mod kinds;
 mod text;
 
@@ -18,6 +18,7 @@ use track::read::ReadList;
 // The most bytes that are listed.
 const LONGEST: usize = 65536;
 
+// Why reading stopped: a word, or the number of a refusal.
 fn stop(why: Stop) {
     match why {
         Stop::End => word(b" end"),
@@ -26,6 +27,7 @@ fn stop(why: Stop) {
     }
 }
 
+// The first line: how many events, why reading stopped, where, and the running status there.
 fn summary(read: ReadList) {
     let why = read.stop;
     word(b"events");
@@ -39,6 +41,7 @@ fn summary(read: ReadList) {
     line_end();
 }
 
+// The line of one event.
 fn line(index: usize, record: Record) {
     let event = record.event;
     let what = event.kind;
@@ -48,7 +51,7 @@ fn line(index: usize, record: Record) {
     line_end();
 }
 
-// Only as many records are there as a list holds, whatever its count says.
+// The lines of a list's events. No more records are there than a list holds, whatever its count says.
 fn lines(list: EventList) {
     let count = list.count;
     let mut index: usize = 0;
@@ -60,6 +63,7 @@ fn lines(list: EventList) {
     }
 }
 
+// Reads standard input and lists it.
 fn main() {
     // one byte more than is listed, to see that there is more
     let mut buffer = [0u8; LONGEST + 1];

@@ -15,17 +15,17 @@ abbrev pub timingGiven : ℕ → ℕ → ℕ → Answer Timing
 timingGiven ticks rate subframe =
     pick (eqb rate 0) (gives (metrical ticks)) (andThen (toRate rate) (λ (r : ℕ). gives (timecode r subframe)))
 
--- the three numbers of a timing, each 0 where it has none: ticks in a beat ..
+-- the ticks in a beat of a timing; 0 where it counts frames
 abbrev pub ticksOf : Timing → ℕ
 ticksOf (metrical ticks) = ticks
 ticksOf (timecode rate subframe) = 0
 
--- .. frames in a second ..
+-- the frames in a second of a timing; 0 where it counts beats
 abbrev pub timingRate : Timing → ℕ
 timingRate (metrical ticks) = 0
 timingRate (timecode rate subframe) = rate
 
--- .. and ticks in a frame
+-- the ticks in a frame of a timing; 0 where it counts beats
 abbrev pub subframeOf : Timing → ℕ
 subframeOf (metrical ticks) = 0
 subframeOf (timecode rate subframe) = subframe

@@ -50,7 +50,7 @@ pub extern "C" fn apk_bend_from_f32(float: f32) -> u16
     raw(PitchBend::from_f32(float))
 }
 
-// As `apk_bend_from_f32`.
+// The raw bend of a float of 64 bits.
 #[no_mangle]
 pub extern "C" fn apk_bend_from_f64(float: f64) -> u16
     ensures { λ r. ⌜ r ≡ rawBendOfFloat float ⌝ }
@@ -58,6 +58,7 @@ pub extern "C" fn apk_bend_from_f64(float: f64) -> u16
     raw(PitchBend::from_f64(float))
 }
 
+// The number of a bend.
 fn raw(bend: PitchBend) -> u16
     ensures { λ r. ⌜ r ≡ bend .0 .0 ⌝ }
 {
@@ -95,7 +96,7 @@ pub extern "C" fn apk_bend_as_f32(raw: u16, float: &mut f32) -> u8
     }
 }
 
-// As `apk_bend_as_f32`.
+// A raw bend as a float of 64 bits.
 #[no_mangle]
 pub extern "C" fn apk_bend_as_f64(raw: u16, float: &mut f64) -> u8
     ensures answer { λ r. ⌜ r ≡ answered (askFloat binary64 raw) ⌝ }

@@ -17,6 +17,7 @@ use header::timing::EncodedTiming;
 use header::timing::ReadTiming;
 use header::timing::Timing;
 
+// The number of a format, as C is told it.
 fn format_number(format: Format) -> u8
     ensures { λ r. ⌜ r ≡ formatOf format ⌝ }
 {
@@ -105,6 +106,7 @@ pub extern "C" fn apk_timing_encode(ticks: u16, rate: u8, subframe: u8, bytes: &
     }
 }
 
+// The answer for a timing: its two bytes into those lent, or the number of a refusal.
 fn timing_encoded(timing: Timing, bytes: &mut [u8; 2]) -> u8
     ensures answer { λ r. ⌜ r ≡ answered (encodeTiming (timingOf timing)) ⌝ }
     ensures bytes { λ r. ⌜ now (bytes .exit) ≡ leaves (λ (b : List ℕ). b) (encodeTiming (timingOf timing)) (now (bytes .entry)) ⌝ }

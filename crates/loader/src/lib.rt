@@ -1,6 +1,7 @@
-// The exported entries, which C and Rust link: numbers, byte slices and values lent for what is found.
-// Each answers 0 where it accepts, else the refusal's number in document 01's table. A refusal changes nothing that was lent but what its entry says.
-// One that refuses nothing answers its value itself. Those for events and lists stand in crates of their own.
+// The exported entries, which C and Rust link: numbers, byte slices and values lent for what is found. `include/apkarewe.h`
+// declares them. Each answers 0 where it accepts, else the refusal's number (document 01, "Refusal numbers"); a refusal
+// changes nothing that was lent but what its entry says. One that refuses nothing answers its value itself.
+// Those for events and lists stand in the crate `loader_track`.
 pub mod bends;
 pub mod fields;
 pub mod numbers;

@@ -44,7 +44,7 @@ pub extern "C" fn apk_number_length(value: u32) -> usize
     u28(value).varlen_length()
 }
 
-// The shortest form of a number, put at a place of a lent buffer, and the place after it.
+// Writes a number in its shortest form at a place of a lent buffer: the place after it.
 #[no_mangle]
 pub extern "C" fn apk_number_write(value: u32, out: &mut [u8], at: usize, next: &mut usize) -> u8
     ensures answer { λ r. ⌜ r ≡ answered (write (numberBytes value) (now (out .entry)) at .answer) ⌝ }
@@ -83,7 +83,7 @@ pub extern "C" fn apk_payload_read(
     }
 }
 
-// The payload that a range of the bytes lent is, put at a place of a lent buffer, and the place after it.
+// Writes a range of the bytes lent as a payload at a place of a lent buffer: the place after it.
 #[no_mangle]
 pub extern "C" fn apk_payload_write(
     payload: &[u8],

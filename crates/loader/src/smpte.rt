@@ -73,7 +73,8 @@ pub extern "C" fn apk_fps_as_f32(rate: u8, frames: &mut f32) -> u8
     }
 }
 
-// The time of six numbers, in its ranges or not.
+// The time of six numbers, in its ranges or not: what the entries below have first of what they are given. 16 where the
+// last is no rate.
 fn time_given(hour: u8, minute: u8, second: u8, frame: u8, subframe: u8, rate: u8) -> TriedSmpteTime
     ensures { λ r. ⌜ triedSmpteTime r ≡ timeGiven hour minute second frame subframe rate ⌝ }
 {
@@ -204,7 +205,7 @@ pub extern "C" fn apk_smpte_second_f32(
     }
 }
 
-// The place of an SMPTE time in the day, in subframes.
+// How many subframes of the day have passed at an SMPTE time.
 #[no_mangle]
 pub extern "C" fn apk_smpte_position(
     hour: u8,

@@ -1,3 +1,3 @@
--- What a meta message and the answers of this crate say, in the paper's terms.
+-- What a meta message and the answers of this crate say, in the terms of the definitions.
 pub mod Meta
 pub mod Narrow

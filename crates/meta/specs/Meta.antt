@@ -14,13 +14,16 @@ use Rattle.meta.specs.declared.MetaMessage.the-variants as meta
 use Rattle.meta.specs.declared.ReadMeta.{ReadMeta}
 use Rattle.meta.specs.declared.ReadMeta.the-variants as read
 
+-- the range of a payload
 abbrev pub spanOf : Range → Span
 spanOf r = record { start = r .start; length = r .length }
 
+-- a track number that is there, and one that is missing
 abbrev pub numberMeta : OptionU16 → kind.Meta Span
 numberMeta (option.Some n) = kind.trackNumber n
 numberMeta option.None = kind.noTrackNumber
 
+-- the message of each case; the nine text kinds by their type
 abbrev pub metaOf : MetaMessage → kind.Meta Span
 metaOf (meta.TrackNumber n) = numberMeta n
 metaOf (meta.Text r) = kind.text 0x01 (spanOf r)
@@ -46,6 +49,7 @@ metaOf (meta.Unknown t r) = kind.unknown t (spanOf r)
 abbrev pub metaBefore : MetaMessage → ℕ → MetaAt
 metaBefore m next = record { message = metaOf m; next = next }
 
+-- what `MetaMessage::read` answers
 abbrev pub metaRead : ReadMeta → Answer MetaAt
 metaRead (read.Message m) = gives (metaBefore (m .message) (m .next))
 metaRead (read.Refused n) = refuses (numberOf n)

@@ -1,4 +1,4 @@
-// Meta messages. A payload is its range of the bytes lent.
+// Module 5 of document 01: meta messages, read. A payload is its range of the bytes lent.
 ghost use mathlib.Core.Path.{_≡_};
 ghost use Prim.Native.Nat.{_+_, _^_, _≤_, _<_};
 ghost use lib.Dec.{eqb};
@@ -27,44 +27,71 @@ use number::payload::read_varlen_slice;
 
 // A track number that may be missing: the Rust's `Option<u16>`.
 pub enum OptionU16 {
+    // the message has two bytes or more
     Some(u16),
+    // it has fewer, and the track's own place in the file is meant
     None,
 }
 
+// What a track says beside the music. Text is a payload of any bytes.
 pub enum MetaMessage {
+    // 00: the number of a sequence
     TrackNumber(OptionU16),
+    // 01: any text
     Text(Range),
+    // 02: a copyright notice
     Copyright(Range),
+    // 03: the name of the track, or of the sequence
     TrackName(Range),
+    // 04: what plays the track
     InstrumentName(Range),
+    // 05: a syllable that is sung
     Lyric(Range),
+    // 06: the name of a point in the music
     Marker(Range),
+    // 07: what happens at this point, as on a stage
     CuePoint(Range),
+    // 08: the name of a program
     ProgramName(Range),
+    // 09: the name of a device
     DeviceName(Range),
+    // 20: the channel that the messages behind it speak of
     MidiChannel(u4),
+    // 21: the port that the track is sent to
     MidiPort(u7),
+    // 2F: the track ends here. Reading goes on where bytes follow
     EndOfTrack,
+    // 51: microseconds in a beat, from here on
     Tempo(u24),
+    // 54: the time of day at which the track begins
     SmpteOffset(SmpteTime),
+    // 58: numerator, denominator as a power of two, MIDI clocks in a click, 32nd notes in a beat
     TimeSignature(u8, u8, u8, u8),
+    // 59: how many sharps, below 0 flats; whether the key is minor
     KeySignature(i8, bool),
+    // 7F: bytes for a sequencer of one make
     SequencerSpecific(Range),
+    // any other type, and 20, 21, 51, 54 and 58 that are too short: the type byte and the payload as it is
     Unknown(u8, Range),
 }
 
-// A meta message that was read at a place, and the place after it.
+// A meta message that was read at a place.
 pub struct MetaAt {
+    // the message
     pub message: MetaMessage,
+    // the place behind its payload
     pub next: usize,
 }
 
+// What reading a meta message answers.
 pub enum ReadMeta {
+    // a message, and where it ends
     Message(MetaAt),
+    // 10 to 14, or 2 or 3 of its payload's number
     Refused(Refusal),
 }
 
-// A message whose payload is what was read last: it ends there.
+// The answer for a message of a payload that was just read: it ends where the payload ends.
 fn message(message: MetaMessage, load: Range) -> ReadMeta
     requires { ⌜ load .start + load .length < 2 ^ 64 ⌝ }
     ensures { λ r. ⌜ metaRead r ≡ gives (metaBefore message (load .start + load .length)) ⌝ }
@@ -73,7 +100,7 @@ fn message(message: MetaMessage, load: Range) -> ReadMeta
     ReadMeta::Message(MetaAt { message, next })
 }
 
-// 00: the first two bytes, or none.
+// 00, a track number: the first two bytes of the payload, or missing where there are fewer.
 fn track_number(raw: &[u8], load: Range) -> OptionU16
     requires { ⌜ load .start + load .length ≤ length (now raw) ⌝ }
     ensures { λ r. ⌜ numberMeta r ≡ mapMeta (λ p. spanOf load) (trackNumberOf (bytesOf (now (raw .entry)) (spanOf load))) ⌝ }
@@ -86,7 +113,7 @@ fn track_number(raw: &[u8], load: Range) -> OptionU16
     }
 }
 
-// A channel or a port, by its type.
+// 20 or 21, a channel or a port of a byte that is below its limit.
 fn narrow_kind(type_byte: u8, byte: u8) -> MetaMessage
     ensures { λ r. ⌜ metaOf r ≡ pick (eqb «type_byte» 0x20) (midiChannel byte) (midiPort byte) ⌝ }
 {
@@ -96,7 +123,8 @@ fn narrow_kind(type_byte: u8, byte: u8) -> MetaMessage
     MetaMessage::MidiPort(u7(byte))
 }
 
-// 20 and 21: a byte below a limit; lenient keeps the low bits.
+// 20 and 21, a channel and a port: the first byte of the payload. One that is not below the limit is refused by 12, or
+// leniently keeps its low bits.
 fn narrow(type_byte: u8, limit: u8, raw: &[u8], load: Range, rules: Rules) -> ReadMeta
     requires { ⌜ (load .start + load .length ≤ length (now raw)) × Narrow «type_byte» limit ⌝ }
     ensures { λ r. ⌜ metaRead r ≡ calledAt (rulesOf rules) (now (raw .entry)) «type_byte» (spanOf load) ⌝ }
@@ -115,7 +143,7 @@ fn narrow(type_byte: u8, limit: u8, raw: &[u8], load: Range, rules: Rules) -> Re
     message(narrow_kind(type_byte, byte % limit), load)
 }
 
-// 51: three bytes, the highest first.
+// 51, a tempo: three bytes, the highest first.
 fn tempo(raw: &[u8], load: Range, rules: Rules) -> ReadMeta
     requires { ⌜ load .start + load .length ≤ length (now raw) ⌝ }
     ensures { λ r. ⌜ metaRead r ≡ calledAt (rulesOf rules) (now (raw .entry)) 0x51 (spanOf load) ⌝ }
@@ -129,7 +157,7 @@ fn tempo(raw: &[u8], load: Range, rules: Rules) -> ReadMeta
     message(MetaMessage::Tempo(u24(high * 65536 + low)), load)
 }
 
-// 54: an SMPTE time.
+// 54, an SMPTE time of five bytes; 13 where it is outside its ranges.
 fn smpte_offset(raw: &[u8], load: Range, rules: Rules) -> ReadMeta
     requires { ⌜ load .start + load .length ≤ length (now raw) ⌝ }
     ensures { λ r. ⌜ metaRead r ≡ calledAt (rulesOf rules) (now (raw .entry)) 0x54 (spanOf load) ⌝ }
@@ -151,7 +179,7 @@ fn smpte_offset(raw: &[u8], load: Range, rules: Rules) -> ReadMeta
     }
 }
 
-// 58: numerator, denominator, MIDI clocks per click, 32nd notes per quarter.
+// 58, a time signature of four bytes, which may be any.
 fn time_signature(raw: &[u8], load: Range, rules: Rules) -> ReadMeta
     requires { ⌜ load .start + load .length ≤ length (now raw) ⌝ }
     ensures { λ r. ⌜ metaRead r ≡ calledAt (rulesOf rules) (now (raw .entry)) 0x58 (spanOf load) ⌝ }
@@ -169,7 +197,8 @@ fn time_signature(raw: &[u8], load: Range, rules: Rules) -> ReadMeta
     message(signature, load)
 }
 
-// 59: refused where it is short, and not made `Unknown` as its neighbours are.
+// 59, a key signature: refused by 14 where it is short, and not made `Unknown` as its neighbours are, since the Rust
+// does so.
 fn key_signature(raw: &[u8], load: Range, rules: Rules) -> ReadMeta
     requires { ⌜ load .start + load .length ≤ length (now raw) ⌝ }
     ensures { λ r. ⌜ metaRead r ≡ calledAt (rulesOf rules) (now (raw .entry)) 0x59 (spanOf load) ⌝ }
@@ -183,7 +212,7 @@ fn key_signature(raw: &[u8], load: Range, rules: Rules) -> ReadMeta
     message(MetaMessage::KeySignature(sharps, minor), load)
 }
 
-// 01 to 09.
+// 01 to 09, the text kinds, each of which holds its payload as it is.
 fn text(type_byte: u8, load: Range) -> MetaMessage
     requires { ⌜ (1 ≤ «type_byte») × («type_byte» < 10) ⌝ }
     ensures { λ r. ⌜ metaOf r ≡ kind.text «type_byte» (spanOf load) ⌝ }
@@ -201,7 +230,7 @@ fn text(type_byte: u8, load: Range) -> MetaMessage
     }
 }
 
-// What a payload is called under its type.
+// The message of a type and a payload. The payload is whole before 12, 13 or 14 is asked of it.
 fn named(type_byte: u8, raw: &[u8], load: Range, rules: Rules) -> ReadMeta
     requires { ⌜ load .start + load .length ≤ length (now raw) ⌝ }
     ensures { λ r. ⌜ metaRead r ≡ calledAt (rulesOf rules) (now (raw .entry)) «type_byte» (spanOf load) ⌝ }
@@ -226,7 +255,7 @@ fn named(type_byte: u8, raw: &[u8], load: Range, rules: Rules) -> ReadMeta
 }
 
 impl MetaMessage {
-    // The meta message at a place, from its type byte on.
+    // Reads the meta message at a place, from its type byte on, which stands behind FF.
     pub fn read(raw: &[u8], at: usize, rules: Rules) -> ReadMeta
         ensures { λ r. ⌜ metaRead r ≡ metaAt (rulesOf rules) (now (raw .entry)) at ⌝ }
     {

@@ -34,7 +34,7 @@ module _ (f : Format) (x : Float) {y : Float} {z : ℤ} (h : fits f x ≡ true) 
   pub narrow : SFits w16 (toZ w64 (ofZ w64 z))
   narrow = rw held (record { sfits = omega (arith, product f x h e .small) })
 
-  -- .. and is what the definition gives
+  -- what is passed on is what the definition gives
   pub passed : toZ w16 (ofZ w16 (toZ w64 (ofZ w64 z))) ≡ scaled x
   passed = toZ-ofZ {w = w16} narrow ∙ held
 

@@ -1,4 +1,4 @@
--- What `as_int`, `as_f32` and `as_f64` of a bend answer, in the paper's terms: the value, or the refusal's number.
+-- What `as_int`, `as_f32` and `as_f64` of a bend answer, in the terms of the definitions: the value, or the refusal's number.
 use lib.IntN.{ℤ, pos}
 use mathlib.Core.Bool.{true, false}
 use lib.Ieee.{Float, fin, lt}
@@ -21,7 +21,7 @@ abbrev pub bendF32 : BendF32 → Answer Float
 bendF32 (f32.Value x) = gives x
 bendF32 (f32.Refused n) = refuses (numberOf n)
 
--- as bendF32
+-- the float itself, of 64 bits
 abbrev pub bendF64 : BendF64 → Answer Float
 bendF64 (f64.Value x) = gives x
 bendF64 (f64.Refused n) = refuses (numberOf n)

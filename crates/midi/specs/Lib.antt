@@ -1,3 +1,3 @@
--- Messages and bends, in the paper's numbers.
+-- Channel messages and bends, in the terms of the definitions.
 pub mod Bend
 pub mod Midi

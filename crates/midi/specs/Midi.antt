@@ -3,6 +3,7 @@ use Rattle.smf.specs.Kind as kind
 use Rattle.midi.specs.declared.MidiMessage.{MidiMessage}
 use Rattle.midi.specs.declared.MidiMessage.the-variants as midi
 
+-- the message of each case, with its fields as plain numbers
 abbrev pub messageOf : MidiMessage → kind.Message
 messageOf (midi.NoteOff key vel) = kind.noteOff (key .0) (vel .0)
 messageOf (midi.NoteOn key vel) = kind.noteOn (key .0) (vel .0)

@@ -54,14 +54,14 @@ impl PitchBend {
         PitchBend(u14::new(0x3FFF))
     }
 
-    // From an integer in -0x2000..=0x1FFF; one beyond is clamped.
+    // The bend of a signed integer, -0x2000 to 0x1FFF; one beyond is clamped.
     pub fn from_int(int: i16) -> PitchBend
         ensures { λ r. ⌜ r .0 .0 ≡ rawBend int ⌝ }
     {
         PitchBend(u14::new((clamp_int(int) + 0x2000) as u16))
     }
 
-    // From a number in -1.0..1.0; one beyond is clamped, and a NaN gives full bend downwards.
+    // The bend of a float in -1.0..1.0; one beyond is clamped, and a NaN gives full bend downwards.
     // The promise is on the float's exact value, at every float; that these operations lose nothing is proved.
     pub fn from_f32(float: f32) -> PitchBend
         ensures { λ r. ⌜ r .0 .0 ≡ rawBendOfFloat float ⌝ }
@@ -69,14 +69,14 @@ impl PitchBend {
         PitchBend::from_int(std::num::truncating_f32_to_i64(clamp_f32(float) * 8192.0) as i16)
     }
 
-    // As `from_f32`.
+    // The bend of a float of 64 bits, by the rule of `from_f32`.
     pub fn from_f64(float: f64) -> PitchBend
         ensures { λ r. ⌜ r .0 .0 ≡ rawBendOfFloat float ⌝ }
     {
         PitchBend::from_int(std::num::truncating_f64_to_i64(clamp_f64(float) * 8192.0) as i16)
     }
 
-    // The bend as an integer.
+    // The bend as a signed integer, 0 for no bend.
     pub fn as_int(self) -> BendInt
         ensures { λ r. ⌜ bendInt r ≡ askBend (self .0 .0) ⌝ }
     {
@@ -88,7 +88,7 @@ impl PitchBend {
         }
     }
 
-    // The bend as a number in -1.0..1.0.
+    // The bend as a float in -1.0..1.0, exactly.
     pub fn as_f32(self) -> BendF32
         ensures { λ r. ⌜ bendF32 r ≡ askFloat binary32 (self .0 .0) ⌝ }
         ensures exact { λ r. ⌜ GivesQuotient (self .0 .0) (bendF32 r) ⌝ }
@@ -99,7 +99,7 @@ impl PitchBend {
         }
     }
 
-    // As `as_f32`.
+    // The bend as a float of 64 bits, exactly.
     pub fn as_f64(self) -> BendF64
         ensures { λ r. ⌜ bendF64 r ≡ askFloat binary64 (self .0 .0) ⌝ }
         ensures exact { λ r. ⌜ GivesQuotient (self .0 .0) (bendF64 r) ⌝ }
@@ -111,7 +111,7 @@ impl PitchBend {
     }
 }
 
-// The Rust's `int.max(-0x2000).min(0x1FFF)`.
+// A signed integer brought into the range of bends: the Rust's `int.max(-0x2000).min(0x1FFF)`.
 fn clamp_int(int: i16) -> i16
     ensures { λ r. ⌜ r ≡ clamped int ⌝ }
 {
@@ -124,7 +124,7 @@ fn clamp_int(int: i16) -> i16
     }
 }
 
-// The Rust's `float.max(-1.0).min(1.0)`: no comparison holds of a NaN, so it gives -1.0.
+// A float brought into -1.0..1.0: the Rust's `float.max(-1.0).min(1.0)`. No comparison holds of a NaN, so it gives -1.0.
 fn clamp_f32(float: f32) -> f32
     ensures { λ r. ⌜ r ≡ clampedFloat float ⌝ }
 {
@@ -135,6 +135,7 @@ fn clamp_f32(float: f32) -> f32
     }
 }
 
+// A float of 64 bits brought into -1.0..1.0, a NaN to -1.0.
 fn clamp_f64(float: f64) -> f64
     ensures { λ r. ⌜ r ≡ clampedFloat float ⌝ }
 {

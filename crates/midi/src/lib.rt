@@ -6,24 +6,32 @@ ghost use Rattle.smf.specs.Wire.{tableLength};
 use base::u7;
 use base::u14;
 
-// The raw bend: 0x2000 is none.
+// How far notes are bent, as a file has it, the raw bend: 0x2000 is no bend.
 pub struct PitchBend(pub u14);
 
+// What a channel is told. The channel stands in the event's kind.
 pub enum MidiMessage {
+    // 8: stop a note, with the speed at which its key is let go
     NoteOff { key: u7, vel: u7 },
+    // 9: play a note, as hard as the velocity says. Velocity 0 stops it by custom, and stays a note-on here
     NoteOn { key: u7, vel: u7 },
+    // A: how hard the key of one sounding note is pressed now
     Aftertouch { key: u7, vel: u7 },
+    // B: set a controller, as the volume or a pedal
     Controller { controller: u7, value: u7 },
+    // C: play by another program, that is with another sound
     ProgramChange { program: u7 },
+    // D: how hard the keys of all sounding notes are pressed now
     ChannelAftertouch { vel: u7 },
+    // E: bend the notes of the channel
     PitchBend { bend: PitchBend },
 }
 
-// Data lengths by the status byte's upper half.
+// How many data bytes a message has, by the upper half of its status byte; 0 for what is no channel status.
 const LENGTH_BY_STATUS: [u8; 16] = [0, 0, 0, 0, 0, 0, 0, 0, 2, 2, 2, 2, 1, 1, 2, 0];
 
 impl MidiMessage {
-    // Midi messages have a known length.
+    // How many data bytes a message has behind its status byte.
     pub fn msg_length(status: u8) -> u8
         ensures { λ r. ⌜ r ≡ tableLength status ⌝ }
     {

@@ -1,3 +1,3 @@
--- What the answers of this crate say, in the paper's numbers.
+-- What the answers of this crate say, in the terms of the definitions.
 pub mod Varlen
 pub mod Payload

@@ -2,5 +2,5 @@
 pub mod payload;
 pub mod varlen;
 
-// A tick count, a length: what a variable-length number holds.
+// A number of 28 bits, as a variable-length number of four bytes holds it: a tick count, a length.
 pub struct u28(pub u32);

@@ -1,4 +1,4 @@
-// Payloads: a number and that many bytes. What the Rust returns as a slice is a range of the bytes lent.
+// Payloads, read and written: a number and that many bytes. What the Rust returns as a slice is a range of the bytes lent.
 ghost use mathlib.Core.Path.{_≡_};
 ghost use Prim.Native.Nat.{_+_, _-_, _≤_};
 ghost use lib.ListN.{length, take, drop};
@@ -14,17 +14,21 @@ use base::Range;
 use base::Refusal;
 use base::Rules;
 
-// A payload that was read: where it stands in the bytes lent.
+// A payload that was read. It is a struct of its own, so that what else is known of a payload can join it.
 pub struct Payload {
+    // where it stands in the bytes lent; its event ends where it ends
     pub range: Range,
 }
 
+// What reading a payload answers.
 pub enum ReadSlice {
+    // a payload; leniently also the rest of the bytes, where they are fewer than its number says
     Slice(Payload),
+    // strict: 2 or 3 of its number, 11 cut off
     Refused(Refusal),
 }
 
-// How many bytes there are from a place on.
+// How many bytes there are from a place on; none from a place past the end.
 fn bytes_from(raw: &[u8], at: usize) -> usize
     ensures { λ r. ⌜ r ≡ length (now (raw .entry)) - at ⌝ }
 {
@@ -34,7 +38,7 @@ fn bytes_from(raw: &[u8], at: usize) -> usize
     raw.len() - at
 }
 
-// The payload at a place, as a range of the bytes.
+// Reads the payload at a place, as a range of the bytes.
 pub fn read_varlen_slice(raw: &[u8], at: usize, rules: Rules) -> ReadSlice
     ensures { λ r. ⌜ sliceRead r ≡ payloadAt (rulesOf rules) (now (raw .entry)) at ⌝ }
 {
@@ -60,7 +64,7 @@ pub fn read_varlen_slice(raw: &[u8], at: usize, rules: Rules) -> ReadSlice
     }
 }
 
-// A part of some bytes, put at a place of a buffer that has room for it.
+// Copies a part of some bytes to a place of a buffer that has room for it: the language has no copy of its own.
 fn copy_part(bytes: &[u8], start: usize, n: usize, out: &mut [u8], at: usize)
     requires { ⌜ (start + n ≤ length (now bytes)) × (at + n ≤ length (now out)) ⌝ }
     ensures { λ r. ⌜ now (out .exit) ≡ over (take n (drop start (now (bytes .entry)))) (now (out .entry)) at ⌝ }
@@ -72,7 +76,8 @@ fn copy_part(bytes: &[u8], start: usize, n: usize, out: &mut [u8], at: usize)
     }
 }
 
-// The payload that a range of the bytes lent is, put at a place of a lent buffer.
+// Writes a range of the bytes lent as a payload, with its number in front, at a place of a lent buffer. All that can be
+// refused is looked at before the first byte is written.
 pub fn write_varlen_slice(bytes: &[u8], slice: Range, out: &mut [u8], at: usize) -> WroteNumber
     ensures { λ r. ⌜ writeLeft r (now (out .exit)) ≡ write (payloadBytes (now (bytes .entry)) (slice .start) (slice .length)) (now (out .entry)) at ⌝ }
 {

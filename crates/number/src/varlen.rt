@@ -1,4 +1,5 @@
-// Variable-length numbers. The Rust's slice that shrinks is a place by value.
+// Variable-length numbers, read and written. Where the Rust shrinks a slice as it reads, a place goes in and the place
+// behind what was read comes out.
 ghost use mathlib.Core.Path.{_≡_};
 ghost use lib.ListN.{length};
 ghost use Rattle.smf.specs.Number.{encodeNumber};
@@ -11,11 +12,15 @@ use crate::u28;
 use base::Refusal;
 use base::Rules;
 
+// What `u28::try_from` answers.
 pub enum TriedU28 {
+    // the number, which fits
     Made(u28),
+    // 18: it is above the width
     Refused(Refusal),
 }
 
+// The four functions of every restricted number, as in the crate `base`.
 impl u28 {
     const MASK: u32 = 0xFFF_FFFF;
 
@@ -48,23 +53,31 @@ impl u28 {
     }
 }
 
-// A number that was read at a place, and the place after it.
+// A number that was read at a place.
 pub struct NumberAt {
+    // what it stands for
     pub value: u28,
+    // the place behind its last byte
     pub next: usize,
 }
 
+// What reading a number answers.
 pub enum ReadNumber {
+    // a number; leniently also one that the end of the bytes cut off, or whose fourth byte has bit 7 set
     Number(NumberAt),
+    // strict: 2 cut off, 3 a fourth byte that continues
     Refused(Refusal),
 }
 
-// What a write answers: the place after the last byte written.
+// What writing a number, or a payload, answers.
 pub enum WroteNumber {
+    // the place behind the last byte written
     Next(usize),
+    // 18, 19, 20 or 22, and no byte of the buffer is changed
     Refused(Refusal),
 }
 
+// A byte as a number of 32 bits.
 fn wide(x: u8) -> u32
     ensures { λ r. ⌜ r ≡ x ⌝ }
 {
@@ -72,7 +85,8 @@ fn wide(x: u8) -> u32
 }
 
 impl u28 {
-    // The number at a place, of one to four bytes of seven bits each.
+    // Reads the number at a place: one to four bytes of seven bits each, the highest first. The loop is left with the bits
+    // on a last byte, on a fourth byte and at the end of the bytes.
     pub fn read_u7(raw: &[u8], at: usize, rules: Rules) -> ReadNumber
         ensures { λ r. ⌜ numberRead r ≡ numberAt (rulesOf rules) (now (raw .entry)) at ⌝ }
     {
@@ -106,7 +120,7 @@ impl u28 {
         })
     }
 
-    // How many bytes the shortest form has.
+    // How many bytes the number has in its shortest form, 1 to 4.
     pub fn varlen_length(self) -> usize
         ensures { λ r. ⌜ r ≡ length (encodeNumber (self .0)) ⌝ }
     {
@@ -123,7 +137,7 @@ impl u28 {
         4
     }
 
-    // The shortest form, put at a place of a lent buffer.
+    // Writes the number in its shortest form at a place of a lent buffer, the last byte first.
     pub fn write_varlen(self, out: &mut [u8], at: usize) -> WroteNumber
         ensures { λ r. ⌜ writeLeft r (now (out .exit)) ≡ write (numberBytes (self .0)) (now (out .entry)) at ⌝ }
     {

@@ -16,5 +16,6 @@ capacity = 128
 abbrev pub recordOf : Record → Event Span
 recordOf r = eventOf (r .event)
 
+-- a list as its records and its count
 abbrev pub heldOf : EventList → Held
 heldOf l = record { records = map recordOf (l .records); count = l .count }

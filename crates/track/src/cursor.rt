@@ -13,36 +13,44 @@ use event::read::ReadEvent;
 
 // Why reading stopped.
 pub enum Stop {
-    // the end of the bytes
+    // at the end of the bytes
     End,
-    // as many events read as a list holds, and bytes left
+    // as many events were read as a list holds, and bytes are left
     Full,
-    // an event was refused; those before it stand
+    // an event was refused, by 1 to 14; those before it stand
     Refused(Refusal),
 }
 
-// The place of the next unread byte, the running status there, and how many events were taken before it.
+// Where a reader of a list is.
 pub struct Cursor {
+    // the running status at the place
     pub running: Running,
+    // the place of the next unread byte
     pub place: usize,
+    // how many events were taken before it
     pub count: usize,
 }
 
-// An event, and the cursor behind it. The cursor's byte stands first, where `Stop` has one too: a compiler then keeps
-// the rest in registers.
+// An event that was taken. The cursor's byte stands first, where `Stop` has one too: a compiler then keeps the rest in
+// registers.
 pub struct NextEvent {
+    // where the reader is behind the event
     pub cursor: Cursor,
+    // the event
     pub event: TrackEvent,
 }
 
-// Where reading stops the cursor stays where it is, which is the place of a refused event.
+// What a step answers.
 pub enum Next {
+    // the next event of the list
     Event(NextEvent),
+    // there is none, and why. The cursor stays where it is, which is the place of a refused event
     Stop(Stop),
 }
 
 impl Cursor {
-    // The next event of the list.
+    // Takes the next event of the list, or says why reading stops: at the end, else full, else refused. At the end of the
+    // bytes the running status is not looked at: that 1 comes before all else is for the readers of lists to see to.
     pub fn next(self, raw: &[u8], rules: Rules) -> Next
         ensures { λ r. ⌜ nextOf r ≡ nextAt (rulesOf rules) capacity (now (raw .entry)) (readerOf self) ⌝ }
     {

@@ -1,4 +1,5 @@
-// Reading a list of events. It stops at the end of the bytes, full, or at an event that is refused.
+// Reading a list of events into records, step by step. It stops at the end of the bytes, full, or at an event that is
+// refused.
 ghost use mathlib.Core.Path.{_≡_};
 ghost use Rattle.smf.specs.Lists.{listAt, heldAs};
 ghost use Rattle.base.specs.Rules.{rulesOf};
@@ -13,16 +14,20 @@ use base::Refusal;
 use base::Rules;
 use base::Running;
 
-// The place of the next unread byte, which is a refused event's own, and the running status there.
+// What reading a list answers.
 pub struct ReadList {
+    // the events that were read, those before a refusal too
     pub list: EventList,
+    // why reading stopped
     pub stop: Stop,
+    // the place of the next unread byte; after a refusal, of the refused event
     pub place: usize,
+    // the running status there
     pub running: Running,
 }
 
 impl EventList {
-    // The list at a place, from a running status; nothing is read from one that is none.
+    // Reads the list at a place, from a running status. From an invalid one nothing is read: 1 comes before all else.
     pub fn read(raw: &[u8], at: usize, running: Running, rules: Rules) -> ReadList
         ensures { λ r. ⌜ listRead r ≡ heldAs capacity (listAt (rulesOf rules) capacity (running .status) (now (raw .entry)) at) ⌝ }
     {

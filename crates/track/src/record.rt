@@ -1,4 +1,4 @@
-// The records of a list are made here, and nowhere else.
+// The records of a list are made here and nowhere else, so that what joins a record is filled in at one place.
 ghost use mathlib.Core.Path.{_≡_};
 ghost use Rattle.smf.specs.Lists.{filler};
 ghost use Rattle.event.specs.Event.{eventOf};
@@ -9,13 +9,14 @@ use event::TrackEventKind;
 use meta::MetaMessage;
 use number::u28;
 
+// The record of an event.
 pub fn recorded(event: TrackEvent) -> Record
     ensures { λ r. ⌜ recordOf r ≡ eventOf event ⌝ }
 {
     Record { event }
 }
 
-// What stands past the count.
+// What stands past the count: delta 0, `EndOfTrack`.
 pub fn filler() -> Record
     ensures { λ r. ⌜ recordOf r ≡ filler ⌝ }
 {

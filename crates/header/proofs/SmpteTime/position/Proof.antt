@@ -25,7 +25,7 @@ legal c = sym (c .before .in-range .ensures) ∙ not-false _ (c .if1 .left)
 abbrev asked : tie.After-as-int → Time
 asked c = smpteTimeOf (c .before .before .before .before .before .before .args .self)
 
--- and the rules that it is judged by
+-- the rules by which that time is judged
 abbrev ruled : tie.After-as-int → Rules
 ruled c = rulesOf (c .before .before .before .before .before .before .args .rules)
 
