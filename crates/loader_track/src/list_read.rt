@@ -1,4 +1,4 @@
-// Reading a list into a sheet.
+// The entry that reads a list into rows.
 ghost use mathlib.Core.Path.{_≡_};
 ghost use Prim.Native.Nat.{ℕ};
 ghost use lib.ListN.{length};

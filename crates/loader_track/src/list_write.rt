@@ -1,4 +1,4 @@
-// Measuring and writing a list of rows.
+// The entries that measure and write a list of rows.
 ghost use mathlib.Core.Path.{_≡_};
 ghost use Rattle.loader.specs.Entry.{fromBits};
 ghost use Rattle.loader_track.specs.Lists.{sheetSize, sheetWritten, numberAnswered, lengthLeft, indexLeft};

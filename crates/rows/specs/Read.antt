@@ -1,4 +1,4 @@
--- What reading a list into cells leaves in them and answers, in the paper's terms.
+-- What reading a list into cells leaves in them and answers, in the terms of the definitions.
 use mathlib.Core.List.{List}
 use Prim.Native.Nat.{ℕ}
 use lib.ListN.{length}
@@ -42,6 +42,6 @@ abbrev pub sheetAnswered : ReadRows → Answer SheetAt
 sheetAnswered (read.Rows r) = gives (rowsRead r)
 sheetAnswered (read.Refused n) = refuses (numberOf n)
 
--- with what the cells hold at the end
+-- what the code answers, with what the cells hold at the end
 abbrev pub rowsLeft : ReadRows → List ℕ → SheetRead
 rowsLeft r cells = record { cells = cells; answer = sheetAnswered r }

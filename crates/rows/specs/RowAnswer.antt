@@ -1,4 +1,4 @@
--- What making an event of a row answers, in the paper's terms.
+-- What making an event of a row answers, in the terms of the definitions.
 use Rattle.smf.specs.Answer.{Answer, gives, refuses}
 use Rattle.smf.specs.Place.{Span}
 use Rattle.smf.specs.Event.{Event}

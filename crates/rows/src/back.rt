@@ -1,4 +1,4 @@
-// The event of a row: the way back. What a kind does not use of a row is not looked at.
+// The event of a row: the way back from what a caller in C gives. What a kind does not use of a row is not looked at.
 ghost use mathlib.Core.Path.{_≡_};
 ghost use mathlib.Core.Bool.{true, _||_};
 ghost use Prim.Native.Nat.{_+_, _-_, _<_, _≤_};
@@ -34,7 +34,9 @@ use number::u28;
 
 // What making an event of a row answers.
 pub enum RowEvent {
+    // the event, which may still be illegal: a field may be above its width
     Event(TrackEvent),
+    // 18: the cells are no event's row
     Refused(Refusal), // 18: the row is no event's
 }
 
@@ -57,6 +59,7 @@ pub fn are_bytes(a: u64, b: u64, c: u64, d: u64, e: u64) -> bool
     e < 256
 }
 
+// Whether a kind's number is that of a text kind, 0x101 to 0x109.
 fn is_text(number: u64) -> bool
     ensures { λ r. ⌜ r ≡ isText (number - 0x100) ⌝ }
 {
@@ -66,6 +69,7 @@ fn is_text(number: u64) -> bool
     number < 0x10A
 }
 
+// Whether six numbers can be an SMPTE time's, in its ranges or not: five bytes and one of the four rates.
 fn time_fits(a: u64, b: u64, c: u64, d: u64, e: u64, rate: u64) -> bool
     ensures { λ r. ⌜ r ≡ timeFits a b c d e rate ⌝ }
 {
@@ -119,6 +123,7 @@ fn fields_fit(number: u64, a: u64, b: u64, c: u64, d: u64, e: u64, f: u64) -> bo
     }
 }
 
+// The range of a payload.
 fn load(start: u64, length: u64) -> Range
     ensures { λ r. ⌜ (r .start ≡ start) × (r .length ≡ length) ⌝ }
 {
@@ -128,6 +133,7 @@ fn load(start: u64, length: u64) -> Range
     }
 }
 
+// A track number, or a missing one.
 fn track_number(there: u64, number: u64) -> OptionU16
     requires { ⌜ (eqb there 0 || ltb number 65536) ≡ true ⌝ }
     ensures { λ r. ⌜ numberMeta r ≡ rowNumber there number ⌝ }
@@ -138,6 +144,7 @@ fn track_number(there: u64, number: u64) -> OptionU16
     OptionU16::Some(number as u16)
 }
 
+// The rate of one of the four numbers.
 fn fps(rate: u64) -> Fps
     requires { ⌜ isRate rate ≡ true ⌝ }
     ensures { λ r. ⌜ rateOf r ≡ rate ⌝ }
@@ -150,6 +157,7 @@ fn fps(rate: u64) -> Fps
     }
 }
 
+// The SMPTE time of six numbers that fit.
 fn time(a: u64, b: u64, c: u64, d: u64, e: u64, rate: u64) -> SmpteTime
     requires { ⌜ timeFits a b c d e rate ≡ true ⌝ }
     ensures { λ r. ⌜ smpteTimeOf r ≡ time a b c d e rate ⌝ }
@@ -164,6 +172,7 @@ fn time(a: u64, b: u64, c: u64, d: u64, e: u64, rate: u64) -> SmpteTime
     }
 }
 
+// A text kind by its number.
 fn text(number: u64, load: Range) -> MetaMessage
     requires { ⌜ isText (number - 0x100) ≡ true ⌝ }
     ensures { λ r. ⌜ metaOf r ≡ text (number - 0x100) (spanOf load) ⌝ }
@@ -214,7 +223,7 @@ fn message(number: u64, a: u64, b: u64, c: u64) -> MidiMessage
     }
 }
 
-// A channel message has the channel first.
+// The kind of a channel message, whose channel is the row's first field.
 fn midi(number: u64, a: u64, b: u64, c: u64) -> TrackEventKind
     requires { ⌜ fieldsFit number a b c 0 0 0 ≡ true ⌝ }
     requires { ⌜ number < 15 ⌝ }
@@ -247,6 +256,7 @@ fn meta(number: u64, a: u64, b: u64, c: u64, d: u64, e: u64, f: u64, load: Range
     }
 }
 
+// The kind of a row whose numbers fit, by the kind's number.
 fn kind(number: u64, a: u64, b: u64, c: u64, d: u64, e: u64, f: u64, load: Range) -> TrackEventKind
     requires { ⌜ fieldsFit number a b c d e f ≡ true ⌝ }
     ensures { λ r. ⌜ kindOf r ≡ rowKind number a b c d e f (spanOf load) ⌝ }

@@ -1,5 +1,5 @@
 // An event as a row of numbers: the delta, the kind's number, six fields, the payload's start and length.
-// What the loader hands to C, what the listing prints and what sameness compares is the row.
+// Rows are what the entries hand to C and take from it, and what sameness compares.
 pub mod back;
 pub mod lists;
 
@@ -22,7 +22,7 @@ use midi::MidiMessage;
 // How many cells a row has.
 pub const WIDTH: usize = 10;
 
-// A row without its delta.
+// A row without its delta, each number in the integer that it needs.
 pub struct Row {
     pub kind: u16,
     pub a: u32,
@@ -35,7 +35,7 @@ pub struct Row {
     pub length: usize,
 }
 
-// A kind with up to four fields.
+// The row of a kind with up to four fields and no payload.
 fn fields(kind: u16, a: u32, b: u16, c: u8, d: u8) -> Row
     ensures { λ r. ⌜ rowNumbers r ≡ kind ∷ a ∷ b ∷ c ∷ d ∷ 0 ∷ 0 ∷ 0 ∷ 0 ∷ [] ⌝ }
 {
@@ -52,14 +52,14 @@ fn fields(kind: u16, a: u32, b: u16, c: u8, d: u8) -> Row
     }
 }
 
-// The same of bytes.
+// The row of a kind whose fields are bytes, with no payload.
 fn bytes(kind: u16, a: u8, b: u8, c: u8, d: u8) -> Row
     ensures { λ r. ⌜ rowNumbers r ≡ kind ∷ a ∷ b ∷ c ∷ d ∷ 0 ∷ 0 ∷ 0 ∷ 0 ∷ [] ⌝ }
 {
     fields(kind, a as u32, b as u16, c, d)
 }
 
-// A kind that carries a payload.
+// The row of a kind that carries a payload, and of `Unknown` its type.
 fn loaded(kind: u16, a: u8, load: Range) -> Row
     ensures { λ r. ⌜ rowNumbers r ≡ kind ∷ a ∷ 0 ∷ 0 ∷ 0 ∷ 0 ∷ 0 ∷ load .start ∷ load .length ∷ [] ⌝ }
 {
@@ -76,6 +76,7 @@ fn loaded(kind: u16, a: u8, load: Range) -> Row
     }
 }
 
+// The row of a channel message: the upper half of its status is its number, and the channel its first field.
 fn midi_row(channel: u8, message: MidiMessage) -> Row
     ensures { λ r. ⌜ rowNumbers r ≡ midiRow channel (messageOf message) ⌝ }
 {
@@ -95,6 +96,7 @@ fn midi_row(channel: u8, message: MidiMessage) -> Row
     }
 }
 
+// The row of a track number: 1 and the number where it is there, 0 and 0 where it is missing.
 fn number_row(n: OptionU16) -> Row
     ensures { λ r. ⌜ rowNumbers r ≡ metaRow (numberMeta n) ⌝ }
 {
@@ -104,6 +106,7 @@ fn number_row(n: OptionU16) -> Row
     }
 }
 
+// The row of an SMPTE time, with its rate last.
 fn time_row(t: SmpteTime) -> Row
     ensures { λ r. ⌜ rowNumbers r ≡ metaRow (smpteOffset (smpteTimeOf t)) ⌝ }
 {
@@ -121,6 +124,7 @@ fn time_row(t: SmpteTime) -> Row
     }
 }
 
+// The row of a key signature: the byte of its sharps, then 1 for minor and 0 for major.
 fn key_row(sharps: i8, minor: bool) -> Row
     ensures { λ r. ⌜ rowNumbers r ≡ metaRow (keySignature sharps minor) ⌝ }
 {
@@ -130,6 +134,7 @@ fn key_row(sharps: i8, minor: bool) -> Row
     bytes(0x159, to_byte(sharps), 0, 0, 0)
 }
 
+// The row of a meta message: its number is 0x100 and its type, and 0x200 for `Unknown`.
 fn meta_row(message: MetaMessage) -> Row
     ensures { λ r. ⌜ rowNumbers r ≡ metaRow (metaOf message) ⌝ }
 {
@@ -156,6 +161,7 @@ fn meta_row(message: MetaMessage) -> Row
     }
 }
 
+// The row of a kind, which sameness compares: the delta stands beside it.
 pub fn kind_row(kind: TrackEventKind) -> Row
     ensures { λ r. ⌜ rowNumbers r ≡ kindRow (kindOf kind) ⌝ }
 {
@@ -167,7 +173,7 @@ pub fn kind_row(kind: TrackEventKind) -> Row
     }
 }
 
-// The row of a delta and a kind, as the caller is lent it.
+// The row of an event, as cells for the caller.
 pub fn event_row(delta: u32, kind: TrackEventKind) -> [u64; WIDTH]
     ensures { λ r. ⌜ r ≡ delta ∷ kindRow (kindOf kind) ⌝ }
 {

@@ -29,11 +29,15 @@ pub struct RowsRead {
     pub running: Running,
 }
 
+// What reading a list into rows answers.
 pub enum ReadRows {
+    // the rows were laid into the cells
     Rows(RowsRead),
+    // 20: the cells are too few, and stay as they came
     Refused(Refusal),
 }
 
+// Lays a row into cells from a place on.
 fn put_row(rows: &mut [u64], at: usize, row: [u64; WIDTH])
     requires { ⌜ at + width ≤ length (now rows) ⌝ }
     ensures { λ r. ⌜ now (rows .exit) ≡ over row (now (rows .entry)) at ⌝ }
@@ -45,7 +49,7 @@ fn put_row(rows: &mut [u64], at: usize, row: [u64; WIDTH])
     }
 }
 
-// The first so many cells of some, put into the first cells of others.
+// Copies the first so many cells into the first cells of others.
 fn copy_cells(cells: &[u64], n: usize, rows: &mut [u64])
     requires { ⌜ (n ≤ length (now cells)) × (n ≤ length (now rows)) ⌝ }
     ensures { λ r. ⌜ now (rows .exit) ≡ over (take n (now (cells .entry))) (now (rows .entry)) 0 ⌝ }
@@ -57,7 +61,8 @@ fn copy_cells(cells: &[u64], n: usize, rows: &mut [u64])
     }
 }
 
-// One row behind the other, into cells for a full list; nothing is read from a running status that is none.
+// Reads a list and lays one row behind the other, into cells for a full list; from an invalid running status nothing is
+// read.
 fn lay_rows(raw: &[u8], at: usize, running: Running, rules: Rules, rows: &mut [u64]) -> RowsRead
     requires { ⌜ capacity * width ≤ length (now rows) ⌝ }
     ensures { λ r. ⌜ rowsLeft (ReadRows.Rows r) (now (rows .exit)) ≡ readSheet (listAt (rulesOf rules) capacity (running .status) (now (raw .entry)) at) (now (rows .entry)) ⌝ }

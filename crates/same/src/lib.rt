@@ -80,6 +80,7 @@ fn same_fields(a: Row, b: Row) -> bool
     a.f == b.f
 }
 
+// Whether two kinds are the same: their fields and their payload bytes.
 fn same_kind(a: TrackEventKind, a_bytes: &[u8], b: TrackEventKind, b_bytes: &[u8]) -> bool
     ensures { λ r. ⌜ Tells r (mapKind (bytesOf (now («a_bytes» .entry))) (kindOf a) ≡ mapKind (bytesOf (now («b_bytes» .entry))) (kindOf b)) ⌝ }
 {

@@ -9,6 +9,7 @@ use track::list::CAPACITY;
 use track::list::EventList;
 use track::list::Record;
 
+// Whether two records hold the same event.
 fn same_record(a: Record, a_bytes: &[u8], b: Record, b_bytes: &[u8]) -> bool
     ensures { λ r. ⌜ Tells r (Same (now («a_bytes» .entry)) (recordOf a) (now («b_bytes» .entry)) (recordOf b)) ⌝ }
 {

@@ -20,8 +20,11 @@ use rows::back::row_event;
 use rows::back::row_event_at;
 use track::list::CAPACITY;
 
+// What comparing rows answers.
 pub enum Sameness {
+    // whether the events, or lists, are the same
     Told(bool),
+    // 21 or 18: something that is no list, or no event, cannot be compared
     Refused(Refusal),
 }
 

@@ -4,6 +4,6 @@ use Prim.Native.Nat.{ℕ}
 use lib.Dec.{ltb, eqb}
 use Rattle.smf.specs.Answer.{pick}
 
--- document 01, refusal 1: neither none (0) nor 80..EF is no running status
+-- document 01, refusal 1: valid is none (0) and 80..EF; any other is invalid
 unfoldable pub isRunning : ℕ → Bool
 isRunning status = pick (eqb status 0) true (pick (ltb status 0x80) false (ltb status 0xF0))

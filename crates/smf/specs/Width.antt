@@ -1,4 +1,4 @@
--- Restricted numbers. Document 01, modules 1: u2, u4, u7, u14, u15, u24 and u28 are numbers of that many bits.
+-- Restricted numbers, module 1 of document 01: u2, u4, u7, u14, u15, u24 and u28 are numbers of that many bits.
 use Prim.Native.Nat.{ℕ, _%_, _^_, _-_}
 use lib.Dec.{ltb}
 use Rattle.smf.specs.Answer.{pick, Answer, gives, refuses}

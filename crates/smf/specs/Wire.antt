@@ -92,7 +92,7 @@ unfoldable pub afterDelta : Rules → ℕ → Answer Numeral → Reading (Taken 
 afterDelta rules running (gives n) = readBody rules running (n .value) (n .rest)
 afterDelta rules running (refuses m) = refused m running
 
--- the event that the bytes begin with, from a running status; 1 where that is none
+-- the event that the bytes begin with, from a running status; 1 where that is invalid
 unfoldable pub readRaw : Rules → ℕ → List ℕ → Reading (Taken RawEvent)
 readRaw rules running s = pick (isRunning running) (afterDelta rules running (readNumber rules s)) (refused 1 running)
 

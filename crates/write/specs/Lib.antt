@@ -1,4 +1,4 @@
--- What the values and the answers of this crate say, in the paper's terms.
+-- What the values and the answers of this crate say, in the terms of the definitions.
 pub mod Raw
 pub mod Size
 pub mod Wrote

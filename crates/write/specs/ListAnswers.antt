@@ -1,4 +1,4 @@
--- What measuring and writing a list answer, in the paper's terms, with what the buffer holds at the end.
+-- What measuring and writing a list answer, in the terms of the definitions, with what the buffer holds at the end.
 use mathlib.Core.Path.{_≡_}
 use mathlib.Core.List.{List, map}
 use Prim.Native.Nat.{ℕ, _≤_}

@@ -1,4 +1,4 @@
--- What writing an event answers, in the paper's terms, with what the buffer holds at the end.
+-- What writing an event answers, in the terms of the definitions, with what the buffer holds at the end.
 use mathlib.Core.List.{List}
 use Prim.Native.Nat.{ℕ}
 use Rattle.smf.specs.Answer.{Answer, gives, refuses}

@@ -38,6 +38,7 @@ use meta::MetaMessage;
 use meta::OptionU16;
 use midi::MidiMessage;
 
+// A channel message with two data bytes.
 fn two(upper: u64, channel: u64, a: u7, b: u7) -> Made
     requires { ⌜ upper < 15 ⌝ }
     ensures { λ r. ⌜ ((bytes : List ℕ) → madeSaid bytes r ≡ pick (ltb channel 16 && (ltb (a .0) 128 && ltb (b .0) 128)) (gives (wire.two (upper * 16 + channel) (a .0) (b .0))) (refuses 18)) ⌝ }
@@ -45,13 +46,14 @@ fn two(upper: u64, channel: u64, a: u7, b: u7) -> Made
     crate::make::channel(upper, channel, true, a.0 as u64, b.0 as u64)
 }
 
-// Note the little-endian order of a bend, contrasting with the big-endian order of the rest.
+// A bend, which has its low seven bits first, where all else has the high byte first.
 fn pitch(channel: u64, bend: u64) -> Made
     ensures { λ r. ⌜ ((bytes : List ℕ) → madeSaid bytes r ≡ pick (ltb channel 16 && ltb bend 16384) (gives (wire.two (0xE0 + channel) (bend % 128) (bend / 128))) (refuses 18)) ⌝ }
 {
     crate::make::channel(14, channel, true, bend % 128, bend / 128)
 }
 
+// A channel message with its channel.
 fn message(channel: u4, message: MidiMessage) -> Made
     ensures { λ r. ⌜ ((rules : smf.Rules) (bytes : List ℕ) → madeSaid bytes r ≡ rawKind rules bytes (midi (channel .0) (messageOf message))) ⌝ }
 {
@@ -79,6 +81,7 @@ fn message(channel: u4, message: MidiMessage) -> Made
     }
 }
 
+// A track number, or a missing one, which is written with no bytes.
 fn number(number: OptionU16) -> Made
     ensures { λ r. ⌜ ((rules : smf.Rules) (bytes : List ℕ) → madeSaid bytes r ≡ rawKind rules bytes (meta (numberMeta number))) ⌝ }
 {
@@ -88,6 +91,7 @@ fn number(number: OptionU16) -> Made
     }
 }
 
+// A meta message.
 fn meta(message: MetaMessage, rules: Rules, bytes: &[u8]) -> Made
     ensures { λ r. ⌜ madeSaid (now (bytes .entry)) r ≡ rawKind (rulesOf rules) (now (bytes .entry)) (meta (metaOf message)) ⌝ }
 {
@@ -114,6 +118,7 @@ fn meta(message: MetaMessage, rules: Rules, bytes: &[u8]) -> Made
     }
 }
 
+// What stands behind the delta, of every kind.
 fn kind(kind: TrackEventKind, rules: Rules, bytes: &[u8]) -> Made
     ensures { λ r. ⌜ madeSaid (now (bytes .entry)) r ≡ rawKind (rulesOf rules) (now (bytes .entry)) (kindOf kind) ⌝ }
 {
@@ -125,6 +130,7 @@ fn kind(kind: TrackEventKind, rules: Rules, bytes: &[u8]) -> Made
     }
 }
 
+// An event through its door: its raw form, or the number of what forbids it.
 pub fn event_raw(event: TrackEvent, rules: Rules, bytes: &[u8]) -> Judged
     ensures { λ r. ⌜ judgedSaid (now (bytes .entry)) r ≡ rawJudged (legal (rulesOf rules) (now (bytes .entry)) (eventOf event)) ⌝ }
 {

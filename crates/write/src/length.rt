@@ -14,13 +14,14 @@ use crate::raw::RawEvent;
 use base::Running;
 use number::u28;
 
+// How many data bytes a channel message has.
 fn data_length(pair: bool) -> usize
     ensures { λ r. ⌜ r ≡ pick pair 2 1 ⌝ }
 {
     if pair { 2 } else { 1 }
 }
 
-// A status byte is left out exactly when it is the running status.
+// How many bytes a channel message has. Its status byte is left out exactly when it is the running status.
 fn channel_length(c: Channel, running: Running) -> usize
     ensures { λ r. ⌜ r ≡ length (statusBytes (running .status) (c .status)) + pick (c .pair) 2 1 ⌝ }
 {
@@ -31,7 +32,7 @@ fn channel_length(c: Channel, running: Running) -> usize
     n + 1
 }
 
-// A payload of so many bytes, with its number.
+// How many bytes a payload has with its number in front.
 fn load_length(n: usize) -> usize
     requires { ⌜ n < 2 ^ 28 ⌝ }
     ensures { λ r. ⌜ r ≡ loadLength n ⌝ }
@@ -39,6 +40,7 @@ fn load_length(n: usize) -> usize
     u28(n as u32).varlen_length() + n
 }
 
+// How many bytes stand behind the delta.
 fn body_length(raw: Raw, running: Running) -> usize
     requires { ⌜ Short raw ⌝ }
     ensures { λ r. ⌜ r ≡ rawLength (running .status) raw ⌝ }
@@ -51,7 +53,7 @@ fn body_length(raw: Raw, running: Running) -> usize
     }
 }
 
-// What is no channel message leaves no running status.
+// The running status after an event: its own status; none after what is no channel message.
 fn status_after(raw: Raw) -> u8
     ensures { λ r. ⌜ r ≡ rawAfter raw ⌝ }
 {
@@ -63,7 +65,7 @@ fn status_after(raw: Raw) -> u8
     }
 }
 
-// The delta, and what stands behind it.
+// How long an event is, and the running status after it.
 pub fn raw_size(event: RawEvent, running: Running, bytes: &[u8]) -> Size
     requires { ⌜ isSound (now bytes) (event .raw) ≡ true ⌝ }
     ensures { λ r. ⌜ sizeOf r ≡ rawSize (running .status) (rawEvent (event .delta .0) (wireOf (now (bytes .entry)) (event .raw))) ⌝ }

@@ -154,10 +154,13 @@ pub fn time(time: SmpteTime, rules: Rules) -> Made
 
 // Whether a payload is there: its range inside the bytes lent, and its length a number's.
 pub enum Looked {
+    // it is
     There,
+    // 19 or 22
     Refused(Refusal),
 }
 
+// Looks whether a payload is there: 19 before 22.
 fn look(load: Range, bytes: &[u8]) -> Looked
     ensures { λ r. ⌜ lookedSaid r ≡ lent (now (bytes .entry)) (spanOf load) tt ⌝ }
 {

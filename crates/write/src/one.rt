@@ -29,7 +29,7 @@ pub fn event_length(event: TrackEvent, running: Running, rules: Rules, bytes: &[
     measured(event_raw(event, rules, bytes), running, bytes)
 }
 
-// An event put at a place of a lent buffer, from a running status.
+// Writes an event at a place of a lent buffer, from a running status.
 pub fn write_event(
     event: TrackEvent,
     running: Running,
@@ -49,7 +49,7 @@ pub fn write_event(
     written(event_raw(event, rules, bytes), running, bytes, out, at)
 }
 
-// The same of a row's event.
+// How many bytes a row's event has from a running status, and the running status after it.
 pub fn row_length(row: [u64; WIDTH], running: Running, rules: Rules, bytes: &[u8]) -> EventLength
     ensures { λ r. ⌜ lengthSaid r ≡ sizeEvent (running .status) (rowJudged (rulesOf rules) (now (bytes .entry)) row) ⌝ }
 {
@@ -59,6 +59,7 @@ pub fn row_length(row: [u64; WIDTH], running: Running, rules: Rules, bytes: &[u8
     measured(row_raw(row, rules, bytes), running, bytes)
 }
 
+// Writes a row's event at a place of a lent buffer, from a running status.
 pub fn write_row(
     row: [u64; WIDTH],
     running: Running,

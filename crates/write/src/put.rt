@@ -1,4 +1,5 @@
-// Bytes stored where there is room for them, by what they are. What is asked of the caller is tested once, in front.
+// The bytes of an event that may be written, put where there is room for them. Nothing is tested here: the doors have
+// judged the event and the caller has measured it, and the `requires` below say so.
 ghost use mathlib.Core.Path.{_≡_};
 ghost use mathlib.Core.Bool.{true};
 ghost use mathlib.Core.List.{[], _∷_};
@@ -21,7 +22,7 @@ use base::Running;
 use number::payload::write_varlen_slice;
 use number::u28;
 
-// Most deltas are one byte.
+// Puts a delta, and answers the place behind it. Most deltas are one byte, which is stored at once.
 fn put_delta(delta: u28, out: &mut [u8], at: usize) -> usize
     requires { ⌜ (delta .0 < 2 ^ 28) × (at + length (encodeNumber (delta .0)) ≤ length (now out)) ⌝ }
     ensures { λ r. ⌜ Stored (now (out .entry)) at (encodeNumber (delta .0)) r (now (out .exit)) ⌝ }
@@ -48,6 +49,7 @@ fn put_status(status: u8, running: Running, out: &mut [u8], at: usize) -> usize
     at + 1
 }
 
+// Puts the one or two data bytes of a channel message.
 fn put_data(bytes: Channel, out: &mut [u8], at: usize)
     requires { ⌜ at + length (dataBytes bytes) ≤ length (now out) ⌝ }
     ensures { λ r. ⌜ now (out .exit) ≡ over (dataBytes bytes) (now (out .entry)) at ⌝ }
@@ -58,6 +60,7 @@ fn put_data(bytes: Channel, out: &mut [u8], at: usize)
     }
 }
 
+// Puts a channel message.
 fn put_channel(bytes: Channel, running: Running, out: &mut [u8], at: usize)
     requires { ⌜ at + length (encodeRaw (running .status) (channelRaw bytes)) ≤ length (now out) ⌝ }
     ensures { λ r. ⌜ now (out .exit) ≡ over (encodeRaw (running .status) (channelRaw bytes)) (now (out .entry)) at ⌝ }
@@ -66,7 +69,7 @@ fn put_channel(bytes: Channel, running: Running, out: &mut [u8], at: usize)
     put_data(bytes, out, place);
 }
 
-// A byte, and a payload behind it.
+// Puts a byte and a payload behind it.
 fn put_load(lead: u8, bytes: &[u8], load: Range, out: &mut [u8], at: usize)
     requires { ⌜ Inside (now bytes) (spanOf load) × (at + (1 + loadLength (load .length)) ≤ length (now out)) ⌝ }
     ensures { λ r. ⌜ now (out .exit) ≡ over (lead ∷ encodePayload (bytesOf (now (bytes .entry)) (spanOf load))) (now (out .entry)) at ⌝ }
@@ -75,6 +78,7 @@ fn put_load(lead: u8, bytes: &[u8], load: Range, out: &mut [u8], at: usize)
     write_varlen_slice(bytes, load, out, at + 1);
 }
 
+// Puts a meta message whose payload stands in the bytes lent.
 fn put_typed(type_byte: u8, bytes: &[u8], load: Range, out: &mut [u8], at: usize)
     requires { ⌜ Inside (now bytes) (spanOf load) × (at + (2 + loadLength (load .length)) ≤ length (now out)) ⌝ }
     ensures { λ r. ⌜ now (out .exit) ≡ over (0xFF ∷ «type_byte» ∷ encodePayload (bytesOf (now (bytes .entry)) (spanOf load))) (now (out .entry)) at ⌝ }
@@ -83,6 +87,7 @@ fn put_typed(type_byte: u8, bytes: &[u8], load: Range, out: &mut [u8], at: usize
     put_load(type_byte, bytes, load, out, at + 1);
 }
 
+// Puts a meta message whose payload is a few bytes of its own.
 fn put_fixed(type_byte: u8, own: Own, out: &mut [u8], at: usize)
     requires { ⌜ (own .n ≤ 5) × (at + (2 + loadLength (own .n)) ≤ length (now out)) ⌝ }
     ensures { λ r. ⌜ now (out .exit) ≡ over (0xFF ∷ «type_byte» ∷ encodePayload (ownBytes own)) (now (out .entry)) at ⌝ }
@@ -101,7 +106,7 @@ fn put_fixed(type_byte: u8, own: Own, out: &mut [u8], at: usize)
     );
 }
 
-// What stands behind the delta.
+// Puts what stands behind the delta.
 fn put_body(raw: Raw, running: Running, bytes: &[u8], out: &mut [u8], at: usize)
     requires { ⌜ (isSound (now bytes) raw ≡ true) × (at + length (encodeRaw (running .status) (wireOf (now bytes) raw)) ≤ length (now out)) ⌝ }
     ensures { λ r. ⌜ now (out .exit) ≡ over (encodeRaw (running .status) (wireOf (now (bytes .entry)) raw)) (now (out .entry)) at ⌝ }
@@ -114,7 +119,7 @@ fn put_body(raw: Raw, running: Running, bytes: &[u8], out: &mut [u8], at: usize)
     }
 }
 
-// The delta, and what stands behind it.
+// Puts an event: the delta, and what stands behind it.
 pub fn put_raw(event: RawEvent, running: Running, bytes: &[u8], out: &mut [u8], at: usize)
     requires { ⌜ (event .delta .0 < 2 ^ 28) × (isSound (now bytes) (event .raw) ≡ true) × (at + length (encodeRawEvent (running .status) (rawEvent (event .delta .0) (wireOf (now bytes) (event .raw)))) ≤ length (now out)) ⌝ }
     ensures { λ r. ⌜ now (out .exit) ≡ over (encodeRawEvent (running .status) (rawEvent (event .delta .0) (wireOf (now (bytes .entry)) (event .raw)))) (now (out .entry)) at ⌝ }

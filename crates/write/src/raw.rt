@@ -30,7 +30,9 @@ pub struct Own {
     pub e: u8,
 }
 
+// What stands behind the delta.
 pub enum Raw {
+    // a channel message
     Channel(Channel),
     // F0 or F7, and a payload in the bytes lent
     System(u8, Range),
@@ -42,10 +44,13 @@ pub enum Raw {
 
 // What stands behind a delta, or the number of what forbids it.
 pub enum Made {
+    // what stands behind the delta
     Raw(Raw),
+    // 18, 19, 22 or 23
     Refused(Refusal),
 }
 
+// An event that may be written, in its raw form.
 pub struct RawEvent {
     pub delta: u28,
     pub raw: Raw,
@@ -53,11 +58,14 @@ pub struct RawEvent {
 
 // What a door answers: an event that may be written, or the number of what forbids it.
 pub enum Judged {
+    // the raw form of a legal event
     Raw(RawEvent),
+    // 18, 19, 22 or 23, which forbids it
     Refused(Refusal),
 }
 
-// A delta, and what stands behind it. The delta's width is looked at first, as every width is.
+// The raw form of an event of its delta and what stands behind it. The delta's width is looked at first, since 18 comes
+// before all else that forbids an event.
 pub fn behind(delta: u28, made: Made) -> Judged
     ensures { λ r. ⌜ ((bytes : List ℕ) → judgedSaid bytes r ≡ pick (ltb (delta .0) (2 ^ 28)) (andThen (madeSaid bytes made) (λ raw. gives (rawEvent (delta .0) raw))) (refuses 18)) ⌝ }
 {

@@ -35,7 +35,7 @@ fn record_raw(kept: Record, rules: Rules, bytes: &[u8]) -> Judged
     event_raw(event, rules, bytes)
 }
 
-// Of a list that counts no more than it holds.
+// How long the events of a list are that counts no more than it holds; or the first that is illegal.
 fn measure_records(list: EventList, running: Running, rules: Rules, bytes: &[u8]) -> ListLength
     requires { ⌜ list .count ≤ capacity ⌝ }
     ensures { λ r. ⌜ sizeSaid r ≡ sizeChecked (running .status) (check 0 (take (list .count) (recordsJudged (rulesOf rules) (now (bytes .entry)) (map recordOf (list .records))))) ⌝ }
@@ -67,6 +67,7 @@ fn measure_records(list: EventList, running: Running, rules: Rules, bytes: &[u8]
     })
 }
 
+// How many bytes a list has from a running status, and the running status after it.
 pub fn list_length(list: EventList, running: Running, rules: Rules, bytes: &[u8]) -> ListLength
     ensures { λ r. ⌜ sizeSaid r ≡ sizeList capacity (running .status) (recordsJudged (rulesOf rules) (now (bytes .entry)) (map recordOf (list .records))) (list .count) ⌝ }
 {
@@ -79,7 +80,7 @@ pub fn list_length(list: EventList, running: Running, rules: Rules, bytes: &[u8]
     measure_records(list, running, rules, bytes)
 }
 
-// One event behind the other, of a list that is legal and has room.
+// Puts one event behind the other, of a list that is legal and has room.
 fn put_records(list: EventList, running: Running, rules: Rules, bytes: &[u8], out: &mut [u8])
     requires { ⌜ list .count ≤ capacity ⌝ }
     requires { ⌜ RoomFor (running .status) (take (list .count) (recordsJudged (rulesOf rules) (now bytes) (map recordOf (list .records)))) (length (now out)) ⌝ }
@@ -102,7 +103,8 @@ fn put_records(list: EventList, running: Running, rules: Rules, bytes: &[u8], ou
     }
 }
 
-// The room is looked at last.
+// Writes a list from a lent buffer's first byte on. It is judged and measured before a byte is put, so that a refusal
+// leaves no trace; the room is looked at last.
 pub fn write_list(
     list: EventList,
     running: Running,

@@ -66,6 +66,7 @@ fn data_of(number: u64, a: u64, b: u64) -> Data
     Data { pair: true, a, b }
 }
 
+// A channel message by the number of its kind, 8 to 14; what is below is no kind's.
 fn message(number: u64, a: u64, b: u64, c: u64) -> Made
     requires { ⌜ number < 15 ⌝ }
     ensures { λ r. ⌜ ((rules : smf.Rules) (bytes : List ℕ) (d e f : ℕ) → madeSaid bytes r ≡ pick (fieldsFit number a b c d e f) (rawKind rules bytes (kind.midi a (rowMessage number b c))) (refuses 18)) ⌝ }
@@ -77,6 +78,7 @@ fn message(number: u64, a: u64, b: u64, c: u64) -> Made
     channel(number, a, data.pair, data.a, data.b)
 }
 
+// A track number, or a missing one, which is written with no bytes.
 fn number(there: u64, number: u64) -> Made
     ensures { λ r. ⌜ ((rules : smf.Rules) (bytes : List ℕ) → madeSaid bytes r ≡ pick (eqb there 0 || ltb number 65536) (rawKind rules bytes (kind.meta (rowNumber there number))) (refuses 18)) ⌝ }
 {
@@ -86,6 +88,7 @@ fn number(there: u64, number: u64) -> Made
     track_number(number)
 }
 
+// An SMPTE time of six numbers.
 fn row_time(a: u64, b: u64, c: u64, d: u64, e: u64, rate: u64, rules: Rules) -> Made
     ensures { λ r. ⌜ ((bytes : List ℕ) → madeSaid bytes r ≡ pick (timeFits a b c d e rate) (rawKind (rulesOf rules) bytes (kind.meta (kind.smpteOffset (time a b c d e rate)))) (refuses 18)) ⌝ }
 {
@@ -111,6 +114,7 @@ fn row_time(a: u64, b: u64, c: u64, d: u64, e: u64, rate: u64, rules: Rules) -> 
     }
 }
 
+// A time signature of four numbers.
 fn row_signature(a: u64, b: u64, c: u64, d: u64) -> Made
     ensures { λ r. ⌜ ((rules : smf.Rules) (bytes : List ℕ) → madeSaid bytes r ≡ pick (areBytes a b c d 0) (rawKind rules bytes (kind.meta (kind.timeSignature a b c d))) (refuses 18)) ⌝ }
 {
@@ -120,6 +124,7 @@ fn row_signature(a: u64, b: u64, c: u64, d: u64) -> Made
     signature(a as u8, b as u8, c as u8, d as u8)
 }
 
+// A key signature, its sharps as a byte.
 fn row_key(sharps: u64, minor: u64) -> Made
     ensures { λ r. ⌜ ((rules : smf.Rules) (bytes : List ℕ) → madeSaid bytes r ≡ pick (ltb sharps 256) (rawKind rules bytes (kind.meta (kind.keySignature (signedByte sharps) (not (eqb minor 0))))) (refuses 18)) ⌝ }
 {
@@ -129,6 +134,7 @@ fn row_key(sharps: u64, minor: u64) -> Made
     key(sharps as u8, minor != 0)
 }
 
+// An `Unknown` with its type.
 fn row_unknown(type_byte: u64, load: Range, rules: Rules, bytes: &[u8]) -> Made
     ensures { λ r. ⌜ madeSaid (now (bytes .entry)) r ≡ pick (ltb «type_byte» 256) (rawKind (rulesOf rules) (now (bytes .entry)) (kind.meta (kind.unknown «type_byte» (spanOf load)))) (refuses 18) ⌝ }
 {
@@ -138,6 +144,7 @@ fn row_unknown(type_byte: u64, load: Range, rules: Rules, bytes: &[u8]) -> Made
     unknown(type_byte as u8, load, rules, bytes)
 }
 
+// A text kind by the number of its kind, 0x101 to 0x109; what else comes here is no kind's.
 fn row_text(number: u64, load: Range, bytes: &[u8]) -> Made
     ensures { λ r. ⌜ ((rules : smf.Rules) → madeSaid (now (bytes .entry)) r ≡ pick (kind.isText (number - 0x100)) (rawKind rules (now (bytes .entry)) (kind.meta (kind.text (number - 0x100) (spanOf load)))) (refuses 18)) ⌝ }
 {
@@ -150,6 +157,7 @@ fn row_text(number: u64, load: Range, bytes: &[u8]) -> Made
     typed((number - 0x100) as u8, load, bytes)
 }
 
+// A meta message by the number of its kind.
 fn row_meta(
     number: u64,
     a: u64,
@@ -180,6 +188,7 @@ fn row_meta(
     }
 }
 
+// What stands behind the delta, by the number of the kind.
 fn row_made(
     number: u64,
     a: u64,
@@ -206,6 +215,7 @@ fn row_made(
     row_meta(number, a, b, c, d, e, f, load, rules, bytes)
 }
 
+// A row through its door: its raw form, or the number of what forbids it.
 pub fn row_raw(row: [u64; WIDTH], rules: Rules, bytes: &[u8]) -> Judged
     ensures { λ r. ⌜ judgedSaid (now (bytes .entry)) r ≡ rawJudged (rowJudged (rulesOf rules) (now (bytes .entry)) row) ⌝ }
 {

@@ -55,7 +55,7 @@ fn judge_at(rows: &[u64], at: usize, rules: Rules, bytes: &[u8]) -> Judged
     row_raw(cells_at(rows, at), rules, bytes)
 }
 
-// Of no more rows than a list holds.
+// How long the events of so many rows are, no more than a list holds; or the first that is illegal.
 fn measure_rows(
     rows: &[u64],
     count: usize,
@@ -92,6 +92,7 @@ fn measure_rows(
     })
 }
 
+// How many bytes a list of rows has from a running status, and the running status after it.
 pub fn rows_length(
     rows: &[u64],
     count: usize,
@@ -110,7 +111,7 @@ pub fn rows_length(
     measure_rows(rows, count, running, rules, bytes)
 }
 
-// One event behind the other, of rows that are legal and have room.
+// Puts one event behind the other, of rows that are legal and have room.
 fn put_rows(
     rows: &[u64],
     count: usize,
@@ -139,7 +140,8 @@ fn put_rows(
     }
 }
 
-// The room is looked at last.
+// Writes a list of rows from a lent buffer's first byte on, judged and measured before a byte is put; the room is looked
+// at last.
 pub fn write_rows(
     rows: &[u64],
     count: usize,

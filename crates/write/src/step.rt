@@ -16,6 +16,7 @@ use crate::raw::Judged;
 use base::Refusal;
 use base::Running;
 
+// How long an event is that went through its door, or the number of what forbids it.
 pub fn measured(judged: Judged, running: Running, bytes: &[u8]) -> EventLength
     requires { ⌜ LetThrough (now bytes) judged ⌝ }
     ensures { λ r. ⌜ lengthSaid r ≡ andThen (judgedSaid (now (bytes .entry)) judged) (λ raw. gives (rawSize (running .status) raw)) ⌝ }
@@ -26,7 +27,8 @@ pub fn measured(judged: Judged, running: Running, bytes: &[u8]) -> EventLength
     }
 }
 
-// The room is looked at last.
+// Puts an event that went through its door at a place of a lent buffer. The room is looked at last: 20 comes behind what
+// forbids the event itself.
 pub fn written(
     judged: Judged,
     running: Running,
@@ -58,6 +60,7 @@ pub fn written(
     }
 }
 
+// The answer where there is no room.
 fn no_room(running: Running) -> WroteEvent
     ensures { λ r. ⌜ r ≡ WroteEvent.Refused (record { refusal = Refusal.NoRoom; running = running }) ⌝ }
 {
