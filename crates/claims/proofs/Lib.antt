@@ -1,4 +1,5 @@
 pub mod Calls
+pub mod Agree
 pub mod Refusals
 pub mod ReadLeaves
 pub mod Stands
@@ -6,6 +7,7 @@ pub mod EventWrites
 pub mod ListLeaves
 pub mod Worked
 pub mod Shortest
+pub mod EveryInput
 pub mod Identical
 pub mod Point1
 pub mod Point2

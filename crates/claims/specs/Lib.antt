@@ -1,10 +1,12 @@
 -- What is claimed: document 01's statements, each as a type that proofs/ has an element of.
 pub mod Calls
+pub mod EntryCalls
 pub mod Table
 pub mod Stands
 pub mod Leaves
 pub mod Worked
 pub mod Shortest
+pub mod EveryInput
 pub mod Identical
 pub mod Point1
 pub mod Point2
