@@ -7,11 +7,14 @@ pub mod EventWrites
 pub mod ListLeaves
 pub mod Worked
 pub mod Shortest
+pub mod LentRunning
 pub mod EveryInput
 pub mod Identical
+pub mod Entries
 pub mod Point1
 pub mod Point2
 pub mod Point3
 pub mod Point3Calls
+pub mod EntrySays
+pub mod EntryPoint1
 pub mod All
-pub mod Entries
