@@ -1,5 +1,5 @@
 -- What is shown of a call of an exported entry, by the names of its parameters in the source and in `include/apkarewe.h`: the arguments in their
--- order, each lent value with what it holds before and after, and the answer last.
+-- order, each lent value with what it holds before and after, and the answer last. Those that are lent nothing and refuse nothing need no names.
 use mathlib.Core.List.{List}
 use Prim.Native.Nat.{ℕ}
 use lib.IntN.{ℤ}
@@ -15,10 +15,6 @@ module _ {ℓ} {X : Type ℓ} where
   -- `apk_number_read(bytes, at, bits, value, next)`
   abbrev pub numberRead : (List ℕ → ℕ → ℕ → Lent ℕ → Lent ℕ → ℕ → X) → Shows loader.numbers.«apk_number_read».Reads.Learnt X
   numberRead show κs a r e = show (now (first a)) (second a) (third a) (lent (fourth a) (fourth e)) (lent (fifth a) (fifth e)) r
-
-  -- `apk_number_length(value)`
-  abbrev pub numberLength : (ℕ → ℕ → X) → Shows loader.numbers.«apk_number_length».Reads.Learnt X
-  numberLength show κs a r e = show (first a) r
 
   -- `apk_number_write(value, out, at, next)`
   abbrev pub numberWrite : (ℕ → Lent (List ℕ) → ℕ → Lent ℕ → ℕ → X) → Shows loader.numbers.«apk_number_write».Reads.Learnt X
@@ -51,10 +47,6 @@ module _ {ℓ} {X : Type ℓ} where
   timingEncode show κs a r e = show (first a) (second a) (third a) (lent (fourth a) (fourth e)) r
 
   -- Rates and SMPTE times
-
-  -- `apk_fps_from_code(code)`
-  abbrev pub fpsFromCode : (ℕ → ℕ → X) → Shows loader.smpte.«apk_fps_from_code».Reads.Learnt X
-  fpsFromCode show κs a r e = show (first a) r
 
   -- `apk_fps_as_code(rate, code)`
   abbrev pub fpsAsCode : (ℕ → Lent ℕ → ℕ → X) → Shows loader.smpte.«apk_fps_as_code».Reads.Learnt X
@@ -89,30 +81,6 @@ module _ {ℓ} {X : Type ℓ} where
   smptePosition show κs a r e = show (first a) (second a) (third a) (fourth a) (fifth a) (sixth a) (seventh a) (lent (eighth a) (eighth e)) r
 
   -- Bends
-
-  -- `apk_bend_min_raw_value()`
-  abbrev pub bendMinRawValue : (ℕ → X) → Shows loader.bends.«apk_bend_min_raw_value».Reads.Learnt X
-  bendMinRawValue show κs a r e = show r
-
-  -- `apk_bend_mid_raw_value()`
-  abbrev pub bendMidRawValue : (ℕ → X) → Shows loader.bends.«apk_bend_mid_raw_value».Reads.Learnt X
-  bendMidRawValue show κs a r e = show r
-
-  -- `apk_bend_max_raw_value()`
-  abbrev pub bendMaxRawValue : (ℕ → X) → Shows loader.bends.«apk_bend_max_raw_value».Reads.Learnt X
-  bendMaxRawValue show κs a r e = show r
-
-  -- `apk_bend_from_int(int)`
-  abbrev pub bendFromInt : (ℤ → ℕ → X) → Shows loader.bends.«apk_bend_from_int».Reads.Learnt X
-  bendFromInt show κs a r e = show (first a) r
-
-  -- `apk_bend_from_f32(float)`
-  abbrev pub bendFromF32 : (Float → ℕ → X) → Shows loader.bends.«apk_bend_from_f32».Reads.Learnt X
-  bendFromF32 show κs a r e = show (first a) r
-
-  -- `apk_bend_from_f64(float)`
-  abbrev pub bendFromF64 : (Float → ℕ → X) → Shows loader.bends.«apk_bend_from_f64».Reads.Learnt X
-  bendFromF64 show κs a r e = show (first a) r
 
   -- `apk_bend_as_int(raw, int)`
   abbrev pub bendAsInt : (ℕ → Lent ℤ → ℕ → X) → Shows loader.bends.«apk_bend_as_int».Reads.Learnt X

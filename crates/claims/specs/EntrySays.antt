@@ -2,7 +2,6 @@
 use mathlib.Core.Path.{_≡_}
 use mathlib.Core.List.{List}
 use Prim.Native.Nat.{ℕ, zero, suc}
-use Rattle.smf.specs.Answer.{Answer, gives, refuses}
 use Rattle.claims.specs.Calls.{Lent}
 use Rattle.claims.specs.Table.{OneOf}
 
@@ -18,8 +17,3 @@ Outcome ns (suc n) Accepted Refused = OneOf ns (suc n) × Refused
 -- one that refuses by these numbers, and leaves what is left then
 abbrev pub Answers : List ℕ → ℕ → Type 0 → Type 0
 Answers ns r Left = Outcome ns r (Unit {0}) Left
-
--- the answer, with the value that was found
-abbrev pub said : {A : Type 0} → ℕ → A → Answer A
-said zero a = gives a
-said (suc n) a = refuses (suc n)
