@@ -8,7 +8,7 @@ use Rattle.smf.specs.Event.{Same}
 use Rattle.smf.specs.Lists.{SameList}
 use Rattle.track.specs.List.{capacity}
 use Rattle.rows.specs.RowEvent.{calledRow}
-use Rattle.rows.specs.RowLists.{rowRecords}
+use Rattle.rows.specs.RowLists.{calledRows}
 use Rattle.same.specs.OfRows.{rowsAsked, listsAsked}
 use Rattle.rows.proofs.IdenticalLists.{rowsLeft-identical}
 use Rattle.event.proofs.IdenticalRunning.{step-identical}
@@ -93,7 +93,7 @@ sameness =
           y z (now (fifth a)) (now (fifth d)) (now (fifth e)) p q);
       list-same = λ κs a y z d e p q.
           joined (handed-identical (listsAsked capacity (now (first a)) (second a) (now (fourth a)) (fifth a))
-          (SameList (now (third a)) (rowRecords (second a) (now (first a))) (second a) (now (sixth a)) (rowRecords (fifth a) (now (fourth a))) (fifth a))
+          (SameList (now (third a)) (calledRows (second a) (now (first a))) (second a) (now (sixth a)) (calledRows (fifth a) (now (fourth a))) (fifth a))
           y z (now (seventh a)) (now (seventh d)) (now (seventh e)) p q);
     }
 

@@ -27,7 +27,8 @@ use Rattle.rows.specs.Sheet.{sheetOf}
 use Rattle.loader.specs.Entry.{fromBits, answered, leaves}
 use Rattle.loader.specs.Fields.{encodeFormat, timingGiven, ticksOf, timingRate, subframeOf}
 use Rattle.loader.specs.Smpte.{timeGiven, sixOf}
-use Rattle.loader_track.specs.Events.{readAnswered, readRow, readUsed, readRunning}
+use Rattle.event.specs.Lent.{readRunning}
+use Rattle.loader_track.specs.Events.{readAnswered, readRow, readUsed}
 use Rattle.loader_track.specs.Lists.{stopNumber, listGiven, sheetPut, readOr, readAnswer}
 use Rattle.claims.specs.Calls.{first, second, third, fourth, fifth, sixth, seventh}
 use Rattle.claims.specs.Table.{among, OneOf, By, Keeps, ofNumber, ofPayload, ofEvent}

@@ -117,6 +117,7 @@ rows =
     record {
       kind-row = λ κs a. tt;
       event-row = λ κs a. tt;
+      are-bytes = λ κs a. tt;
       event-of-row = λ κs a. tt;
       event-of-row-at = λ κs a. tt;
       read-rows = λ κs a. tt;

@@ -23,7 +23,7 @@ use Rattle.write.proofs.Identical.{lengthSaid-injective, wroteEvent-injective, 
 use Rattle.rows.specs.Rows.{rowNumbers}
 use Rattle.rows.specs.declared.Row.{Row}
 use Rattle.rows.specs.RowEvent.{calledRow}
-use Rattle.rows.specs.RowLists.{rowRecords}
+use Rattle.rows.specs.RowLists.{calledRows}
 use Rattle.rows.proofs.Identical.{rowAnswer-injective}
 use Rattle.same.specs.OfRows.{rowsAsked, listsAsked}
 use Rattle.same.proofs.Identical.{tells-identical, says-identical}
@@ -162,6 +162,7 @@ lists =
       write-rows = λ κs a y z d e p q. joined (wroteList-injective (p ∙ sym q));
       kind-row = λ κs a y z d e p q. rowNumbers-injective (p ∙ sym q);
       event-row = λ κs a y z d e p q. p ∙ sym q;
+      are-bytes = λ κs a y z d e p q. p ∙ sym q;
       event-of-row = λ κs a y z d e p q. rowAnswer-injective (p ∙ sym q);
       event-of-row-at = λ κs a y z d e p q. rowAnswer-injective (p ∙ sym q);
       same-event = λ κs a y z d e p q. tells-identical _ y z p q;
@@ -170,7 +171,7 @@ lists =
           says-identical (rowsAsked (first a) (third a)) (Same (now (second a)) (calledRow (first a)) (now (fourth a)) (calledRow (third a))) y z p q;
       same-row-lists = λ κs a y z d e p q.
           says-identical (listsAsked capacity (now (first a)) (second a) (now (fourth a)) (fifth a))
-          (SameList (now (third a)) (rowRecords (second a) (now (first a))) (second a) (now (sixth a)) (rowRecords (fifth a) (now (fourth a))) (fifth a))
+          (SameList (now (third a)) (calledRows (second a) (now (first a))) (second a) (now (sixth a)) (calledRows (fifth a) (now (fourth a))) (fifth a))
           y z p q;
     }
 

@@ -120,6 +120,7 @@ pub record AnyTrack : Type 0 where
 pub record AnyRows : Type 0 where
   pub kind-row : Any rows.«kind_row».Reads.Asked
   pub event-row : Any rows.«event_row».Reads.Asked
+  pub are-bytes : Any rows.back.«are_bytes».Reads.Asked
   pub event-of-row : Any rows.back.«row_event».Reads.Asked
   pub event-of-row-at : Any rows.back.«row_event_at».Reads.Asked
   pub read-rows : Any rows.lists.«read_rows».Reads.Asked

@@ -111,6 +111,7 @@ pub record Lists : Type 0 where
   pub write-rows : OneOutcome write.«row_lists».«write_rows».Reads.Learnt (writeRows (λ rows count running rules bytes out r end. r & end))
   pub kind-row : OneAnswer rows.«kind_row».Reads.Learnt
   pub event-row : OneAnswer rows.«event_row».Reads.Learnt
+  pub are-bytes : OneAnswer rows.back.«are_bytes».Reads.Learnt
   pub event-of-row : OneAnswer rows.back.«row_event».Reads.Learnt
   pub event-of-row-at : OneAnswer rows.back.«row_event_at».Reads.Learnt
   pub same-event : OneAnswer same.«same_event».Reads.Learnt
