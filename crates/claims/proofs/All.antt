@@ -7,6 +7,7 @@ use Rattle.claims.proofs.Identical.{identical}
 use Rattle.claims.proofs.Entries.{entries}
 use Rattle.claims.proofs.LentRunning.{lent-running}
 use Rattle.claims.proofs.EntryPoint1.{entry-point-1}
+use Rattle.claims.proofs.EntryPoint3.{entry-point-3}
 use Rattle.claims.proofs.Point1.{point-1}
 use Rattle.claims.proofs.Point2.{point-2}
 use Rattle.claims.proofs.Point3.{writes}
@@ -26,5 +27,6 @@ all =
       lent-running = lent-running;
       point-2 = point-2;
       point-3 = point-3;
+      entry-point-3 = entry-point-3;
       writes = writes;
     }

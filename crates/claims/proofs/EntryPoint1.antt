@@ -1,20 +1,20 @@
 -- Point 1 of the entries, proved: each promise's definition refuses by those numbers, and leaves what it found.
-use mathlib.Core.Path.{_≡_, refl, sym, ap, _∙_, subst}
-use mathlib.Core.Bool.{Bool, true, false, true≢false}
+use mathlib.Core.Path.{_≡_, refl, sym}
+use mathlib.Core.Bool.{Bool, true, false, true≢false, _&&_}
 use mathlib.Core.List.{List, [], _∷_}
 use mathlib.Core.Logic.{_⊎_, inl, inr}
 use Prim.Native.Nat.{ℕ, zero, suc, _+_, _≤_, _<_}
 use native.Mathlib.Omega.{arith}
 use lib.IntN.{ℤ}
-use lib.Dec.{eqb}
+use lib.Dec.{leb, eqb}
 use lib.Ieee.{Float, binary32, binary64}
 use lib.ListN.{length, drop}
 use denote.Ref.{now}
-use Rattle.smf.specs.Answer.{Answer, gives, andThen, Rules}
+use Rattle.smf.specs.Answer.{Answer, gives, refuses, andThen, Rules}
 use Rattle.smf.specs.Number.{readNumber}
 use Rattle.smf.specs.Place.{NumberAt, Span, numberAt, payloadAt}
-use Rattle.smf.specs.Write.{Written, put, write, numberBytes, payloadBytes}
-use Rattle.smf.specs.Header.{isFormat, toFormat, formatBytes, readFormat, Timing, timecode, readTiming, encodeTiming}
+use Rattle.smf.specs.Write.{put, write, numberBytes, payloadBytes}
+use Rattle.smf.specs.Header.{isFormat, toFormat, readFormat, readTiming, encodeTiming}
 use Rattle.smf.specs.Smpte.{Time, time, toRate, codeOfRate, toTime, timeOf, encodeTime, position}
 use Rattle.smf.specs.Seconds.{rateFloat, secondsOf}
 use Rattle.smf.specs.Bend.{askBend, askFloat}
@@ -23,22 +23,29 @@ use Rattle.smf.specs.Lists.{Stop, ended, full, stopped, ListAt}
 use Rattle.smf.proofs.Answer.{pick-both, by-lt}
 use Rattle.smf.proofs.Write.{put-fits, put-full}
 use Rattle.track.specs.List.{capacity}
+use Rattle.rows.specs.RowEvent.{isRow}
+use Rattle.rows.specs.RowLists.{areRows}
+use Rattle.same.specs.OfRows.{rowsAsked, listsAsked}
+use Rattle.loader_track.specs.Same.{Handed}
 use Rattle.rows.specs.Sheet.{sheetOf}
+use Rattle.rows.specs.RowEvent.{rowJudged}
+use Rattle.write.specs.Size.{Size, sizeEvent}
 use Rattle.loader.specs.Entry.{fromBits, answered, leaves}
 use Rattle.loader.specs.Fields.{encodeFormat, timingGiven, ticksOf, timingRate, subframeOf}
 use Rattle.loader.specs.Smpte.{timeGiven, sixOf}
 use Rattle.event.specs.Lent.{readRunning}
 use Rattle.loader_track.specs.Events.{readAnswered, readRow, readUsed}
-use Rattle.loader_track.specs.Lists.{stopNumber, listGiven, sheetPut, readOr, readAnswer}
-use Rattle.claims.specs.Calls.{first, second, third, fourth, fifth, sixth, seventh}
-use Rattle.claims.specs.Table.{among, OneOf, By, Keeps, ofNumber, ofPayload, ofEvent}
-use Rattle.claims.specs.Stands.{statusLeft, EventOrLeft, Why, ListStands}
+use Rattle.loader_track.specs.Lists.{stopNumber, listGiven, readAnswer}
+use Rattle.claims.specs.Calls.{first, second, third, fourth, fifth, sixth, seventh, eighth, ninth}
+use Rattle.claims.specs.Table.{among, OneOf, By, ofNumber, ofPayload, ofEvent, ofLength}
+use Rattle.claims.specs.Stands.{statusLeft, EventOrLeft, Why}
 use Rattle.claims.specs.EntrySays.{Outcome, Answers}
-use Rattle.claims.specs.EntryPoint1.{NumberRefusals, FieldRefusals, TimeRefusals, BendRefusals, TrackRefusals, EntryPoint1}
-use Rattle.claims.proofs.Refusals.{allAmong, then-by, by-more, one-of-more, number-at-by, payload-at-by, format-by, rate-by, timing-by, timing-bytes-by, time-by, time-of-by, time-bytes-by, seconds-by, position-by, bend-by, bend-float-by, number-bytes-by, payload-bytes-by, write-keeps}
+use Rattle.claims.specs.EntryPoint1.{NumberRefusals, FieldRefusals, TimeRefusals, BendRefusals, TrackRefusals, SameRefusals, EntryPoint1}
+use Rattle.claims.proofs.Refusals.{allAmong, then-by, by-more, one-of-more, number-at-by, payload-at-by, format-by, rate-by, timing-by, timing-bytes-by, time-by, time-of-by, time-bytes-by, seconds-by, position-by, bend-by, bend-float-by, number-bytes-by, payload-bytes-by, write-keeps, row-by, event-length-by}
 use Rattle.claims.proofs.ReadLeaves.{event-or-left}
 use Rattle.claims.proofs.Stands.{list-stands}
 use Rattle.claims.proofs.EntrySays.{answers, keeps₁, keeps₂, keeps₃, writes}
+use Rattle.claims.proofs.EntryWrites.{event-write, list-length, list-write}
 
 numbers : NumberRefusals
 numbers =
@@ -180,6 +187,16 @@ tracks =
           rw (told .0, told .1 .0, told .1 .1 .0, told .1 .1 .1)
           (event-outcome rules (now (first a)) (third a) (second a) (now (fifth a)) (eventAt rules (third a) (now (first a)) (second a))
           (event-or-left rules (now (first a)) (third a) (second a)));
+      event-length = λ κs a r e told.
+          let judged = rowJudged (fromBits (fourth a)) (now (second a)) (now (first a)) in
+          keeps₂ ofLength (sizeEvent (third a) judged) (λ (n : Size). n .length) (λ (n : Size). n .running) _ _
+          (event-length-by (third a) judged (row-by (fromBits (fourth a)) (now (second a)) (now (first a)))) told;
+      event-write = λ κs a r e told.
+          event-write (fromBits (fourth a)) (third a) (now (second a)) (now (first a)) (now (fifth a)) (sixth a) (now (seventh a)) told;
+      list-length = λ κs a r e told.
+          list-length (fromBits (fifth a)) (fourth a) (now (third a)) (now (first a)) (second a) (now (sixth a)) (now (eighth a)) told;
+      list-write = λ κs a r e told.
+          list-write (fromBits (fifth a)) (fourth a) (now (third a)) (now (first a)) (second a) (now (seventh a)) (now (ninth a)) (now (sixth a)) told;
       list-read-answers = λ κs a r e told.
           let rules = fromBits (fourth a) in
           rw (told .0)
@@ -202,5 +219,30 @@ tracks =
           );
     }
 
+-- what was asked of two rows, or of two sets of rows
+handed-keeps : (ns : List ℕ) (x : Answer (Unit {0})) (r before after : ℕ) (Rule : Type 0) → By ns x → Handed r before after x Rule → Answers ns r (after ≡ before)
+handed-keeps ns (gives u) r before after Rule b h = rw (h .0) tt
+handed-keeps ns (refuses zero) r before after Rule b h = absurd (true≢false (sym b))
+handed-keeps ns (refuses (suc n)) r before after Rule b h = rw (h .0) (b, h .1)
+
+rows-asked-by : (a b : List ℕ) → By (18 ∷ []) (rowsAsked a b)
+unfolding rowsAsked
+rows-asked-by a b = pick-both (By (18 ∷ [])) (isRow a && isRow b) tt refl
+
+lists-asked-by : (most : ℕ) (a : List ℕ) (m : ℕ) (b : List ℕ) (n : ℕ) → By (18 ∷ 21 ∷ []) (listsAsked most a m b n)
+unfolding listsAsked
+lists-asked-by most a m b n =
+    pick-both (By (18 ∷ 21 ∷ [])) (leb m most && leb n most) (pick-both (By (18 ∷ 21 ∷ [])) (areRows m a && areRows n b) tt refl) refl
+
+sameness : SameRefusals
+sameness =
+    record {
+      event-same = λ κs a r e told.
+          handed-keeps (18 ∷ []) (rowsAsked (now (first a)) (now (third a))) r _ _ _ (rows-asked-by (now (first a)) (now (third a))) told;
+      list-same = λ κs a r e told.
+          handed-keeps (18 ∷ 21 ∷ []) (listsAsked capacity (now (first a)) (second a) (now (fourth a)) (fifth a)) r _ _ _
+          (lists-asked-by capacity (now (first a)) (second a) (now (fourth a)) (fifth a)) told;
+    }
+
 pub entry-point-1 : EntryPoint1
-entry-point-1 = record { numbers = numbers; fields = fields; times = times; bends = bends; tracks = tracks }
+entry-point-1 = record { numbers = numbers; fields = fields; times = times; bends = bends; tracks = tracks; sameness = sameness }

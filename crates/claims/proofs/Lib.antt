@@ -16,5 +16,8 @@ pub mod Point2
 pub mod Point3
 pub mod Point3Calls
 pub mod EntrySays
+pub mod EntryWrites
 pub mod EntryPoint1
+pub mod ReadAgain
+pub mod EntryPoint3
 pub mod All

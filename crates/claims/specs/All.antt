@@ -6,6 +6,7 @@ use Rattle.claims.specs.Identical.{Identical}
 use Rattle.claims.specs.Entries.{Entries}
 use Rattle.claims.specs.LentRunning.{LentRunning}
 use Rattle.claims.specs.EntryPoint1.{EntryPoint1}
+use Rattle.claims.specs.EntryPoint3.{EntryPoint3}
 use Rattle.claims.specs.Point1.{Point1}
 use Rattle.claims.specs.Point2.{Point2}
 use Rattle.claims.specs.Point3.{Writes, Point3}
@@ -28,4 +29,5 @@ pub record All : Type 2 where
   pub point-2 : Point2
   -- the writer of lists, of whatever its promise permits; and of the definition, whatever a list may hold
   pub point-3 : Point3
+  pub entry-point-3 : EntryPoint3
   pub writes : Writes

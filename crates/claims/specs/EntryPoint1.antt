@@ -11,15 +11,17 @@ use Rattle.smf.specs.Write.{over}
 use Rattle.smf.specs.Lists.{ListAt}
 use Rattle.track.specs.List.{capacity}
 use Rattle.rows.specs.Sheet.{sheetOf}
+use Rattle.rows.specs.RowLists.{rowsJudged}
 use Rattle.loader.specs.Entry.{fromBits}
 use Rattle.loader_track.specs.Lists.{stopNumber}
 use Rattle.loader.proofs as loader
 use Rattle.loader_track.proofs as loader_track
 use Rattle.claims.specs.Calls.{Always, Lent}
-use Rattle.claims.specs.EntryCalls.{numberRead, numberWrite, payloadRead, payloadWrite, formatRead, formatEncode, timingRead, timingEncode, fpsAsCode, fpsFromInt, fpsAsF32, smpteNew, smpteRead, smpteEncode, smpteSecondF32, smptePosition, bendAsInt, bendAsF32, bendAsF64, eventRead, listRead}
-use Rattle.claims.specs.EntrySays.{Kept, Outcome, Answers}
-use Rattle.claims.specs.Table.{among, OneOf, ofNumber, ofPayload, ofEvent}
+use Rattle.claims.specs.EntryCalls.{numberRead, numberWrite, payloadRead, payloadWrite, formatRead, formatEncode, timingRead, timingEncode, fpsAsCode, fpsFromInt, fpsAsF32, smpteNew, smpteRead, smpteEncode, smpteSecondF32, smptePosition, bendAsInt, bendAsF32, bendAsF64, eventRead, eventLength, eventWrite, listRead, listLength, listWrite, eventSame, listSame}
+use Rattle.claims.specs.EntrySays.{Kept, Outcome, Answers, said, saidList, eventLeft, sizeLeft, listLeft}
+use Rattle.claims.specs.Table.{among, OneOf, ofNumber, ofPayload, ofEvent, ofLength, ofWriting, ofListLength, ofListWriting}
 use Rattle.claims.specs.Stands.{statusLeft, ListStands}
+use Rattle.claims.specs.Leaves.{EventLeaves, SizeLeaves, ListLeaves}
 
 -- numbers and payloads: 2, 3 and 11 only where reading is strict
 pub record NumberRefusals : Type 0 where
@@ -88,6 +90,25 @@ pub record TrackRefusals : Type 0 where
   -- it hands out a list of the events that stand there; those before a refusal stand, and it gives the place of the refused delta
   pub list-read : Always loader_track.«list_read».«apk_list_read».Reads.Learnt (listRead (λ bytes at running bits rows count place after r.
       (l : ListAt) × ListStands (fromBits bits) bytes capacity running at l × ListTold l rows count place after r))
+  -- one row's event, measured and written: a refusal leaves every byte, the place and the running status as given; an acceptance changes no byte but
+  -- its own
+  pub event-length : Always loader_track.events.«apk_event_length».Reads.Learnt (eventLength (λ row payload running bits long after r.
+      Answers ofLength r (Kept long × Kept after)))
+  pub event-write : Always loader_track.events.«apk_event_write».Reads.Learnt (eventWrite (λ row payload running bits out at next after r.
+      Answers ofWriting r (Kept next) × EventLeaves running at (out .before) (eventLeft out next after r) (said r (next .after))))
+  -- a list of rows, measured and written: a refusal gives its number and index, and leaves every byte, the length, and the running status as given
+  pub list-length : Always loader_track.«list_write».«apk_list_length».Reads.Learnt (listLength (λ rows count payload running bits long after index r.
+      Outcome ofListLength r (Kept index) (Kept long)
+      × SizeLeaves (rowsJudged (fromBits bits) payload count rows) count running (sizeLeft long after index r) (saidList r (long .after) (index .after))))
+  pub list-write : Always loader_track.«list_write».«apk_list_write».Reads.Learnt (listWrite (λ rows count payload running bits out long after index r.
+      Outcome ofListWriting r (Kept index) (Kept long)
+      × ListLeaves (rowsJudged (fromBits bits) payload count rows) count running (out .before) (listLeft out long after index r) (saidList r (long .after) (index .after))))
+
+-- sameness: 21 a count above what a list holds, 18 a row that is no event's
+pub record SameRefusals : Type 0 where
+  pub event-same : Always loader_track.sameness.«apk_event_same».Reads.Learnt (eventSame (λ rowA bytesA rowB bytesB same r. Answers (18 ∷ []) r (Kept same)))
+  pub list-same : Always loader_track.sameness.«apk_list_same».Reads.Learnt (listSame (λ rowsA countA bytesA rowsB countB bytesB same r.
+      Answers (18 ∷ 21 ∷ []) r (Kept same)))
 
 -- all of them
 pub record EntryPoint1 : Type 0 where
@@ -96,3 +117,4 @@ pub record EntryPoint1 : Type 0 where
   pub times : TimeRefusals
   pub bends : BendRefusals
   pub tracks : TrackRefusals
+  pub sameness : SameRefusals

@@ -15,4 +15,5 @@ pub mod Point2
 pub mod Point3
 pub mod EntrySays
 pub mod EntryPoint1
+pub mod EntryPoint3
 pub mod All
