@@ -2,7 +2,12 @@
 use Rattle.claims.specs.All.{All}
 use Rattle.claims.proofs.Worked.{as-worked}
 use Rattle.claims.proofs.Shortest.{shortest, not-lenient}
+use Rattle.claims.proofs.EveryInput.{every-input}
 use Rattle.claims.proofs.Identical.{identical}
+use Rattle.claims.proofs.Entries.{entries}
+use Rattle.claims.proofs.LentRunning.{lent-running}
+use Rattle.claims.proofs.EntryPoint1.{entry-point-1}
+use Rattle.claims.proofs.EntryPoint3.{entry-point-3}
 use Rattle.claims.proofs.Point1.{point-1}
 use Rattle.claims.proofs.Point2.{point-2}
 use Rattle.claims.proofs.Point3.{writes}
@@ -15,8 +20,13 @@ all =
       shortest = shortest;
       not-lenient = not-lenient;
       identical = identical;
+      entries = entries;
+      every-input = every-input;
       point-1 = point-1;
+      entry-point-1 = entry-point-1;
+      lent-running = lent-running;
       point-2 = point-2;
       point-3 = point-3;
+      entry-point-3 = entry-point-3;
       writes = writes;
     }

@@ -32,47 +32,47 @@ use Rattle.rows.specs.RowLists.{rowsJudged}
 use Rattle.write.specs.Wrote.{wroteEvent}
 use Rattle.write.specs.ListAnswers.{sizeSaid, wroteList}
 use Rattle.write.specs.declared.answer.WroteEvent.{WroteEvent}
-use Rattle.write.specs.declared.answer.ListLength as length
+use Rattle.write.specs.declared.answer.ListLength as measured
 use Rattle.write.specs.declared.answer.WroteList.{WroteList}
-use Rattle.claims.specs.Calls.{ReadU7, WriteVarlen, ReadVarlenSlice, WriteVarlenSlice, MetaMessageRead, TrackEventRead, EventListRead, WriteEvent, WriteRow, ListLength, WriteList, RowsLength, WriteRows}
+use Rattle.claims.specs.Calls.{first, second, third, fourth, fifth, sixth, ReadU7, WriteVarlen, ReadVarlenSlice, WriteVarlenSlice, MetaMessageRead, TrackEventRead, EventListRead, WriteEvent, WriteRow, ListLength, WriteList, RowsLength, WriteRows}
 
 pub read-u7 : (Claim : List ℕ → ℕ → Rules → ReadNumber → Type 0)
     → ((raw : List ℕ) (at : ℕ) (rules : Rules) (r : ReadNumber) → numberRead r ≡ numberAt (rulesOf rules) raw at → Claim raw at rules r)
     → ReadU7 Claim
-read-u7 Claim law κs a r e told = law (now (a .0)) (a .1 .0) (a .1 .1 .0) r told
+read-u7 Claim law κs a r e told = law (now (first a)) (second a) (third a) r told
 
 pub write-varlen : (Claim : u28 → List ℕ → ℕ → WroteNumber → List ℕ → Type 0)
     → ((self : u28) (out : List ℕ) (at : ℕ) (r : WroteNumber) (end : List ℕ) → writeLeft r end ≡ write (numberBytes (self .0)) out at → Claim self out at r end)
     → WriteVarlen Claim
-write-varlen Claim law κs a r e told = law (a .0) (now (a .1 .0)) (a .1 .1 .0) r (now (e .1 .0)) told
+write-varlen Claim law κs a r e told = law (first a) (now (second a)) (third a) r (now (second e)) told
 
 pub read-varlen-slice : (Claim : List ℕ → ℕ → Rules → ReadSlice → Type 0)
     → ((raw : List ℕ) (at : ℕ) (rules : Rules) (r : ReadSlice) → sliceRead r ≡ payloadAt (rulesOf rules) raw at → Claim raw at rules r)
     → ReadVarlenSlice Claim
-read-varlen-slice Claim law κs a r e told = law (now (a .0)) (a .1 .0) (a .1 .1 .0) r told
+read-varlen-slice Claim law κs a r e told = law (now (first a)) (second a) (third a) r told
 
 pub write-varlen-slice : (Claim : List ℕ → Range → List ℕ → ℕ → WroteNumber → List ℕ → Type 0)
     → ((bytes : List ℕ) (slice : Range) (out : List ℕ) (at : ℕ) (r : WroteNumber) (end : List ℕ)
     → writeLeft r end ≡ write (payloadBytes bytes (slice .start) (slice .length)) out at → Claim bytes slice out at r end)
     → WriteVarlenSlice Claim
-write-varlen-slice Claim law κs a r e told = law (now (a .0)) (a .1 .0) (now (a .1 .1 .0)) (a .1 .1 .1 .0) r (now (e .1 .1 .0)) told
+write-varlen-slice Claim law κs a r e told = law (now (first a)) (second a) (now (third a)) (fourth a) r (now (third e)) told
 
 pub read-meta : (Claim : List ℕ → ℕ → Rules → ReadMeta → Type 0)
     → ((raw : List ℕ) (at : ℕ) (rules : Rules) (r : ReadMeta) → metaRead r ≡ metaAt (rulesOf rules) raw at → Claim raw at rules r)
     → MetaMessageRead Claim
-read-meta Claim law κs a r e told = law (now (a .0)) (a .1 .0) (a .1 .1 .0) r told
+read-meta Claim law κs a r e told = law (now (first a)) (second a) (third a) r told
 
 pub read-event : (Claim : List ℕ → ℕ → Running → Rules → ReadEvent → Type 0)
     → ((raw : List ℕ) (at : ℕ) (running : Running) (rules : Rules) (r : ReadEvent)
     → eventRead r ≡ eventAt (rulesOf rules) (running .status) raw at → Claim raw at running rules r)
     → TrackEventRead Claim
-read-event Claim law κs a r e told = law (now (a .0)) (a .1 .0) (a .1 .1 .0) (a .1 .1 .1 .0) r told
+read-event Claim law κs a r e told = law (now (first a)) (second a) (third a) (fourth a) r told
 
 pub read-list : (Claim : List ℕ → ℕ → Running → Rules → ReadList → Type 0)
     → ((raw : List ℕ) (at : ℕ) (running : Running) (rules : Rules) (r : ReadList)
     → listRead r ≡ heldAs capacity (listAt (rulesOf rules) capacity (running .status) raw at) → Claim raw at running rules r)
     → EventListRead Claim
-read-list Claim law κs a r e told = law (now (a .0)) (a .1 .0) (a .1 .1 .0) (a .1 .1 .1 .0) r told
+read-list Claim law κs a r e told = law (now (first a)) (second a) (third a) (fourth a) r told
 
 pub write-event : (Claim : TrackEvent → Running → Rules → List ℕ → List ℕ → ℕ → WroteEvent → List ℕ → Type 0)
     → ((event : TrackEvent) (running : Running) (rules : Rules) (bytes out : List ℕ) (at : ℕ) (r : WroteEvent) (end : List ℕ)
@@ -80,7 +80,7 @@ pub write-event : (Claim : TrackEvent → Running → Rules → List ℕ → Lis
     → Claim event running rules bytes out at r end)
     → WriteEvent Claim
 write-event Claim law κs a r e told =
-    law (a .0) (a .1 .0) (a .1 .1 .0) (now (a .1 .1 .1 .0)) (now (a .1 .1 .1 .1 .0)) (a .1 .1 .1 .1 .1 .0) r (now (e .1 .1 .1 .1 .0)) told
+    law (first a) (second a) (third a) (now (fourth a)) (now (fifth a)) (sixth a) r (now (fifth e)) told
 
 pub write-row : (Claim : List ℕ → Running → Rules → List ℕ → List ℕ → ℕ → WroteEvent → List ℕ → Type 0)
     → ((row : List ℕ) (running : Running) (rules : Rules) (bytes out : List ℕ) (at : ℕ) (r : WroteEvent) (end : List ℕ)
@@ -88,14 +88,14 @@ pub write-row : (Claim : List ℕ → Running → Rules → List ℕ → List �
     → Claim row running rules bytes out at r end)
     → WriteRow Claim
 write-row Claim law κs a r e told =
-    law (a .0) (a .1 .0) (a .1 .1 .0) (now (a .1 .1 .1 .0)) (now (a .1 .1 .1 .1 .0)) (a .1 .1 .1 .1 .1 .0) r (now (e .1 .1 .1 .1 .0)) told
+    law (first a) (second a) (third a) (now (fourth a)) (now (fifth a)) (sixth a) r (now (fifth e)) told
 
-pub list-length : (Claim : EventList → Running → Rules → List ℕ → length.ListLength → Type 0)
-    → ((list : EventList) (running : Running) (rules : Rules) (bytes : List ℕ) (r : length.ListLength)
+pub list-length : (Claim : EventList → Running → Rules → List ℕ → measured.ListLength → Type 0)
+    → ((list : EventList) (running : Running) (rules : Rules) (bytes : List ℕ) (r : measured.ListLength)
     → sizeSaid r ≡ sizeList capacity (running .status) (recordsJudged (rulesOf rules) bytes (map recordOf (list .records))) (list .count)
     → Claim list running rules bytes r)
     → ListLength Claim
-list-length Claim law κs a r e told = law (a .0) (a .1 .0) (a .1 .1 .0) (now (a .1 .1 .1 .0)) r told
+list-length Claim law κs a r e told = law (first a) (second a) (third a) (now (fourth a)) r told
 
 pub write-list : (Claim : EventList → Running → Rules → List ℕ → List ℕ → WroteList → List ℕ → Type 0)
     → ((list : EventList) (running : Running) (rules : Rules) (bytes out : List ℕ) (r : WroteList) (end : List ℕ)
@@ -103,14 +103,14 @@ pub write-list : (Claim : EventList → Running → Rules → List ℕ → List 
     → Claim list running rules bytes out r end)
     → WriteList Claim
 write-list Claim law κs a r e told =
-    law (a .0) (a .1 .0) (a .1 .1 .0) (now (a .1 .1 .1 .0)) (now (a .1 .1 .1 .1 .0)) r (now (e .1 .1 .1 .1 .0)) told
+    law (first a) (second a) (third a) (now (fourth a)) (now (fifth a)) r (now (fifth e)) told
 
-pub rows-length : (Claim : List ℕ → ℕ → Running → Rules → List ℕ → length.ListLength → Type 0)
-    → ((rows : List ℕ) (count : ℕ) (running : Running) (rules : Rules) (bytes : List ℕ) (r : length.ListLength)
+pub rows-length : (Claim : List ℕ → ℕ → Running → Rules → List ℕ → measured.ListLength → Type 0)
+    → ((rows : List ℕ) (count : ℕ) (running : Running) (rules : Rules) (bytes : List ℕ) (r : measured.ListLength)
     → sizeSaid r ≡ sizeList capacity (running .status) (rowsJudged (rulesOf rules) bytes count rows) count
     → Claim rows count running rules bytes r)
     → RowsLength Claim
-rows-length Claim law κs a r e told = law (now (a .0)) (a .1 .0) (a .1 .1 .0) (a .1 .1 .1 .0) (now (a .1 .1 .1 .1 .0)) r told
+rows-length Claim law κs a r e told = law (now (first a)) (second a) (third a) (fourth a) (now (fifth a)) r told
 
 pub write-rows : (Claim : List ℕ → ℕ → Running → Rules → List ℕ → List ℕ → WroteList → List ℕ → Type 0)
     → ((rows : List ℕ) (count : ℕ) (running : Running) (rules : Rules) (bytes out : List ℕ) (r : WroteList) (end : List ℕ)
@@ -118,4 +118,4 @@ pub write-rows : (Claim : List ℕ → ℕ → Running → Rules → List ℕ �
     → Claim rows count running rules bytes out r end)
     → WriteRows Claim
 write-rows Claim law κs a r e told =
-    law (now (a .0)) (a .1 .0) (a .1 .1 .0) (a .1 .1 .1 .0) (now (a .1 .1 .1 .1 .0)) (now (a .1 .1 .1 .1 .1 .0)) r (now (e .1 .1 .1 .1 .1 .0)) told
+    law (now (first a)) (second a) (third a) (fourth a) (now (fifth a)) (now (sixth a)) r (now (sixth e)) told

@@ -13,7 +13,9 @@ use Rattle.same.specs.OfRows.{rowsAsked, listsAsked}
 use Rattle.rows.proofs.IdenticalLists.{rowsLeft-identical}
 use Rattle.event.proofs.IdenticalRunning.{step-identical}
 use Rattle.loader_track.proofs.Identical.{handed-identical}
-use Rattle.claims.specs.Entries.{NumberEntries, HeaderEntries, TimeEntries, BendEntries, EventEntries, ListEntries, Sameness, Sheets, Lent, Entries}
+use Rattle.claims.specs.Calls.{first, second, third, fourth, fifth, sixth, seventh}
+use Rattle.claims.proofs.Agree.{joined, agree₂, agree₃, agree₄, agree₅}
+use Rattle.claims.specs.Entries.{NumberEntries, HeaderEntries, TimeEntries, BendEntries, EventEntries, ListEntries, Sameness, Sheets, HandedOver, Entries}
 
 rulesOf-injective : {x y : Rules} → rulesOf x ≡ rulesOf y → x ≡ y
 rulesOf-injective e = ap (λ (r : smf.Rules). record { strict = r .strict }) e
@@ -22,34 +24,34 @@ numbers : NumberEntries
 numbers =
     record {
       rules = λ κs a y z d e p q. rulesOf-injective (p ∙ sym q);
-      number-read = λ κs a y z d e p q. (p .0 ∙ sym (q .0), (p .1 .0 ∙ sym (q .1 .0), p .1 .1 ∙ sym (q .1 .1)));
+      number-read = λ κs a y z d e p q. agree₃ p q;
       number-length = λ κs a y z d e p q. p ∙ sym q;
-      number-write = λ κs a y z d e p q. (p .0 ∙ sym (q .0), (p .1 .0 ∙ sym (q .1 .0), p .1 .1 ∙ sym (q .1 .1)));
-      payload-read = λ κs a y z d e p q. (p .0 ∙ sym (q .0), (p .1 .0 ∙ sym (q .1 .0), p .1 .1 ∙ sym (q .1 .1)));
-      payload-write = λ κs a y z d e p q. (p .0 ∙ sym (q .0), (p .1 .0 ∙ sym (q .1 .0), p .1 .1 ∙ sym (q .1 .1)));
+      number-write = λ κs a y z d e p q. agree₃ p q;
+      payload-read = λ κs a y z d e p q. agree₃ p q;
+      payload-write = λ κs a y z d e p q. agree₃ p q;
     }
 
 headers : HeaderEntries
 headers =
     record {
-      format-read = λ κs a y z d e p q. (p .0 ∙ sym (q .0), p .1 ∙ sym (q .1));
-      format-encode = λ κs a y z d e p q. (p .0 ∙ sym (q .0), p .1 ∙ sym (q .1));
-      timing-read = λ κs a y z d e p q. (p .0 ∙ sym (q .0), (p .1 .0 ∙ sym (q .1 .0), p .1 .1 .0 ∙ sym (q .1 .1 .0), p .1 .1 .1 ∙ sym (q .1 .1 .1)));
-      timing-encode = λ κs a y z d e p q. (p .0 ∙ sym (q .0), p .1 ∙ sym (q .1));
+      format-read = λ κs a y z d e p q. agree₂ p q;
+      format-encode = λ κs a y z d e p q. agree₂ p q;
+      timing-read = λ κs a y z d e p q. agree₄ p q;
+      timing-encode = λ κs a y z d e p q. agree₂ p q;
     }
 
 times : TimeEntries
 times =
     record {
       fps-from-code = λ κs a y z d e p q. p ∙ sym q;
-      fps-as-code = λ κs a y z d e p q. (p .0 ∙ sym (q .0), p .1 ∙ sym (q .1));
-      fps-from-int = λ κs a y z d e p q. (p .0 ∙ sym (q .0), p .1 ∙ sym (q .1));
-      fps-as-f32 = λ κs a y z d e p q. (p .0 ∙ sym (q .0), p .1 ∙ sym (q .1));
+      fps-as-code = λ κs a y z d e p q. agree₂ p q;
+      fps-from-int = λ κs a y z d e p q. agree₂ p q;
+      fps-as-f32 = λ κs a y z d e p q. agree₂ p q;
       smpte-new = λ κs a y z d e p q. p ∙ sym q;
-      smpte-read = λ κs a y z d e p q. (p .0 ∙ sym (q .0), p .1 ∙ sym (q .1));
-      smpte-encode = λ κs a y z d e p q. (p .0 ∙ sym (q .0), p .1 ∙ sym (q .1));
-      smpte-second-f32 = λ κs a y z d e p q. (p .0 ∙ sym (q .0), p .1 ∙ sym (q .1));
-      smpte-position = λ κs a y z d e p q. (p .0 ∙ sym (q .0), p .1 ∙ sym (q .1));
+      smpte-read = λ κs a y z d e p q. agree₂ p q;
+      smpte-encode = λ κs a y z d e p q. agree₂ p q;
+      smpte-second-f32 = λ κs a y z d e p q. agree₂ p q;
+      smpte-position = λ κs a y z d e p q. agree₂ p q;
     }
 
 bends : BendEntries
@@ -61,45 +63,51 @@ bends =
       bend-from-int = λ κs a y z d e p q. p ∙ sym q;
       bend-from-f32 = λ κs a y z d e p q. p ∙ sym q;
       bend-from-f64 = λ κs a y z d e p q. p ∙ sym q;
-      bend-as-int = λ κs a y z d e p q. (p .0 ∙ sym (q .0), p .1 ∙ sym (q .1));
-      bend-as-f32 = λ κs a y z d e p q. (p .0 ∙ sym (q .0), p .1 ∙ sym (q .1));
-      bend-as-f64 = λ κs a y z d e p q. (p .0 ∙ sym (q .0), p .1 ∙ sym (q .1));
+      bend-as-int = λ κs a y z d e p q. agree₂ p q;
+      bend-as-f32 = λ κs a y z d e p q. agree₂ p q;
+      bend-as-f64 = λ κs a y z d e p q. agree₂ p q;
     }
 
 events : EventEntries
 events =
     record {
-      event-read = λ κs a y z d e p q. (p .0 ∙ sym (q .0), (p .1 .0 ∙ sym (q .1 .0), p .1 .1 .0 ∙ sym (q .1 .1 .0), p .1 .1 .1 ∙ sym (q .1 .1 .1)));
-      event-length = λ κs a y z d e p q. (p .0 ∙ sym (q .0), (p .1 .0 ∙ sym (q .1 .0), p .1 .1 ∙ sym (q .1 .1)));
-      event-write = λ κs a y z d e p q. (p .0 ∙ sym (q .0), (p .1 .0 ∙ sym (q .1 .0), p .1 .1 .0 ∙ sym (q .1 .1 .0), p .1 .1 .1 ∙ sym (q .1 .1 .1)));
+      event-read = λ κs a y z d e p q. agree₄ p q;
+      event-length = λ κs a y z d e p q. agree₃ p q;
+      event-write = λ κs a y z d e p q. agree₄ p q;
     }
 
 lists : ListEntries
 lists =
     record {
-      list-read = λ κs a y z d e p q. (p .0 ∙ sym (q .0), (p .1 .0 ∙ sym (q .1 .0), p .1 .1 .0 ∙ sym (q .1 .1 .0), p .1 .1 .1 .0 ∙ sym (q .1 .1 .1 .0), p .1 .1 .1 .1 ∙ sym (q .1 .1 .1 .1)));
-      list-length = λ κs a y z d e p q. (p .0 ∙ sym (q .0), (p .1 .0 ∙ sym (q .1 .0), p .1 .1 .0 ∙ sym (q .1 .1 .0), p .1 .1 .1 ∙ sym (q .1 .1 .1)));
-      list-write = λ κs a y z d e p q. (p .0 ∙ sym (q .0), (p .1 .0 ∙ sym (q .1 .0), p .1 .1 .0 ∙ sym (q .1 .1 .0), p .1 .1 .1 .0 ∙ sym (q .1 .1 .1 .0), p .1 .1 .1 .1 ∙ sym (q .1 .1 .1 .1)));
+      list-read = λ κs a y z d e p q. agree₅ p q;
+      list-length = λ κs a y z d e p q. agree₄ p q;
+      list-write = λ κs a y z d e p q. agree₅ p q;
     }
 
 sameness : Sameness
 sameness =
     record {
-      event-same = λ κs a y z d e p q. handed-identical (rowsAsked (now (a .0)) (now (a .1 .1 .0))) (Same (now (a .1 .0)) (calledRow (now (a .0))) (now (a .1 .1 .1 .0)) (calledRow (now (a .1 .1 .0)))) y z (now (a .1 .1 .1 .1 .0)) (now (d .1 .1 .1 .1 .0)) (now (e .1 .1 .1 .1 .0)) p q;
-      list-same = λ κs a y z d e p q. handed-identical (listsAsked capacity (now (a .0)) (a .1 .0) (now (a .1 .1 .1 .0)) (a .1 .1 .1 .1 .0)) (SameList (now (a .1 .1 .0)) (calledRows (a .1 .0) (now (a .0))) (a .1 .0) (now (a .1 .1 .1 .1 .1 .0)) (calledRows (a .1 .1 .1 .1 .0) (now (a .1 .1 .1 .0))) (a .1 .1 .1 .1 .0)) y z (now (a .1 .1 .1 .1 .1 .1 .0)) (now (d .1 .1 .1 .1 .1 .1 .0)) (now (e .1 .1 .1 .1 .1 .1 .0)) p q;
+      event-same = λ κs a y z d e p q.
+          joined (handed-identical (rowsAsked (now (first a)) (now (third a)))
+          (Same (now (second a)) (calledRow (now (first a))) (now (fourth a)) (calledRow (now (third a))))
+          y z (now (fifth a)) (now (fifth d)) (now (fifth e)) p q);
+      list-same = λ κs a y z d e p q.
+          joined (handed-identical (listsAsked capacity (now (first a)) (second a) (now (fourth a)) (fifth a))
+          (SameList (now (third a)) (calledRows (second a) (now (first a))) (second a) (now (sixth a)) (calledRows (fifth a) (now (fourth a))) (fifth a))
+          y z (now (seventh a)) (now (seventh d)) (now (seventh e)) p q);
     }
 
 sheets : Sheets
 sheets =
     record {
-      read-rows = λ κs a y z d e p q. rowsLeft-identical (p ∙ sym q);
+      read-rows = λ κs a y z d e p q. joined (rowsLeft-identical (p ∙ sym q));
     }
 
-lent : Lent
-lent =
+handed-over : HandedOver
+handed-over =
     record {
       read-step = λ κs a y z d e p q. step-identical p q;
     }
 
 pub entries : Entries
-entries = record { numbers = numbers; headers = headers; times = times; bends = bends; events = events; lists = lists; sameness = sameness; sheets = sheets; lent = lent }
+entries = record { numbers = numbers; headers = headers; times = times; bends = bends; events = events; lists = lists; sameness = sameness; sheets = sheets; handed-over = handed-over }

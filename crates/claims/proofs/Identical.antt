@@ -27,6 +27,8 @@ use Rattle.rows.specs.RowLists.{calledRows}
 use Rattle.rows.proofs.Identical.{rowAnswer-injective}
 use Rattle.same.specs.OfRows.{rowsAsked, listsAsked}
 use Rattle.same.proofs.Identical.{tells-identical, says-identical}
+use Rattle.claims.specs.Calls.{first, second, third, fourth, fifth, sixth}
+use Rattle.claims.proofs.Agree.{joined}
 use Rattle.claims.specs.Identical.{Numbers, Headers, Bends, Events, Lists, Identical}
 
 -- a row is its numbers
@@ -87,9 +89,9 @@ numbers =
       is-valid = λ κs a y z d e p q. p ∙ sym q;
       read-u7 = λ κs a y z d e p q. numberRead-injective (p ∙ sym q);
       varlen-length = λ κs a y z d e p q. p ∙ sym q;
-      write-varlen = λ κs a y z d e p q. writeLeft-injective (p ∙ sym q);
+      write-varlen = λ κs a y z d e p q. joined (writeLeft-injective (p ∙ sym q));
       read-varlen-slice = λ κs a y z d e p q. sliceRead-injective (p ∙ sym q);
-      write-varlen-slice = λ κs a y z d e p q. writeLeft-injective (p ∙ sym q);
+      write-varlen-slice = λ κs a y z d e p q. joined (writeLeft-injective (p ∙ sym q));
     }
 
 headers : Headers
@@ -143,9 +145,9 @@ events =
       meta-read = λ κs a y z d e p q. metaRead-injective (p ∙ sym q);
       event-read = λ κs a y z d e p q. eventRead-injective (p ∙ sym q);
       event-length = λ κs a y z d e p q. lengthSaid-injective (p ∙ sym q);
-      write-event = λ κs a y z d e p q. wroteEvent-injective (p ∙ sym q);
+      write-event = λ κs a y z d e p q. joined (wroteEvent-injective (p ∙ sym q));
       row-length = λ κs a y z d e p q. lengthSaid-injective (p ∙ sym q);
-      write-row = λ κs a y z d e p q. wroteEvent-injective (p ∙ sym q);
+      write-row = λ κs a y z d e p q. joined (wroteEvent-injective (p ∙ sym q));
     }
 
 lists : Lists
@@ -155,17 +157,22 @@ lists =
       list-read = λ κs a y z d e p q. listRead-injective (p ∙ sym q);
       cursor-next = λ κs a y z d e p q. nextOf-injective (p ∙ sym q);
       list-length = λ κs a y z d e p q. sizeSaid-injective (p ∙ sym q);
-      write-list = λ κs a y z d e p q. wroteList-injective (p ∙ sym q);
+      write-list = λ κs a y z d e p q. joined (wroteList-injective (p ∙ sym q));
       rows-length = λ κs a y z d e p q. sizeSaid-injective (p ∙ sym q);
-      write-rows = λ κs a y z d e p q. wroteList-injective (p ∙ sym q);
+      write-rows = λ κs a y z d e p q. joined (wroteList-injective (p ∙ sym q));
       kind-row = λ κs a y z d e p q. rowNumbers-injective (p ∙ sym q);
       event-row = λ κs a y z d e p q. p ∙ sym q;
+      are-bytes = λ κs a y z d e p q. p ∙ sym q;
       event-of-row = λ κs a y z d e p q. rowAnswer-injective (p ∙ sym q);
       event-of-row-at = λ κs a y z d e p q. rowAnswer-injective (p ∙ sym q);
       same-event = λ κs a y z d e p q. tells-identical _ y z p q;
       same-list = λ κs a y z d e p q. tells-identical _ y z p q;
-      same-rows = λ κs a y z d e p q. says-identical (rowsAsked (a .0) (a .1 .1 .0)) (Same (now (a .1 .0)) (calledRow (a .0)) (now (a .1 .1 .1 .0)) (calledRow (a .1 .1 .0))) y z p q;
-      same-row-lists = λ κs a y z d e p q. says-identical (listsAsked capacity (now (a .0)) (a .1 .0) (now (a .1 .1 .1 .0)) (a .1 .1 .1 .1 .0)) (SameList (now (a .1 .1 .0)) (calledRows (a .1 .0) (now (a .0))) (a .1 .0) (now (a .1 .1 .1 .1 .1 .0)) (calledRows (a .1 .1 .1 .1 .0) (now (a .1 .1 .1 .0))) (a .1 .1 .1 .1 .0)) y z p q;
+      same-rows = λ κs a y z d e p q.
+          says-identical (rowsAsked (first a) (third a)) (Same (now (second a)) (calledRow (first a)) (now (fourth a)) (calledRow (third a))) y z p q;
+      same-row-lists = λ κs a y z d e p q.
+          says-identical (listsAsked capacity (now (first a)) (second a) (now (fourth a)) (fifth a))
+          (SameList (now (third a)) (calledRows (second a) (now (first a))) (second a) (now (sixth a)) (calledRows (fifth a) (now (fourth a))) (fifth a))
+          y z p q;
     }
 
 pub identical : Identical

@@ -1,4 +1,5 @@
 pub mod Calls
+pub mod Agree
 pub mod Refusals
 pub mod ReadLeaves
 pub mod Stands
@@ -6,10 +7,17 @@ pub mod EventWrites
 pub mod ListLeaves
 pub mod Worked
 pub mod Shortest
+pub mod LentRunning
+pub mod EveryInput
 pub mod Identical
+pub mod Entries
 pub mod Point1
 pub mod Point2
 pub mod Point3
 pub mod Point3Calls
+pub mod EntrySays
+pub mod EntryWrites
+pub mod EntryPoint1
+pub mod ReadAgain
+pub mod EntryPoint3
 pub mod All
-pub mod Entries

@@ -23,6 +23,7 @@ use Rattle.rows.specs.RowLists.{rowsJudged}
 use Rattle.track.specs.List.{capacity, recordOf}
 use Rattle.track.specs.Read.{listRead}
 use Rattle.track.specs.declared.read.ReadList.{ReadList}
+use Rattle.claims.specs.Calls.{first}
 use Rattle.claims.specs.Table.{inTable, By, Keeps, ofNumber, ofPayload, ofMeta, ofLength}
 use Rattle.claims.specs.Stands.{EventOrLeft, ListStands}
 use Rattle.claims.specs.Leaves.{EventLeaves, SizeLeaves, ListLeaves}
@@ -73,10 +74,10 @@ numbered =
       u15-try-from = λ κs a z e told. of (18 ∷ []) told (width-by 15 _);
       u24-try-from = λ κs a z e told. of (18 ∷ []) told (width-by 24 _);
       u28-try-from = λ κs a z e told. of (18 ∷ []) told (width-by 28 _);
-      format-read = λ κs a z e told. of (15 ∷ 17 ∷ []) told (format-by (now (a .0)));
-      timing-read = λ κs a z e told. of (16 ∷ 17 ∷ []) told (timing-by (now (a .0)));
-      timing-encode = λ κs a z e told. of (18 ∷ []) told (timing-bytes-by (timingOf (a .0)));
-      fps-from-int = λ κs a z e told. of (16 ∷ []) told (rate-by (a .0));
+      format-read = λ κs a z e told. of (15 ∷ 17 ∷ []) told (format-by (now (first a)));
+      timing-read = λ κs a z e told. of (16 ∷ 17 ∷ []) told (timing-by (now (first a)));
+      timing-encode = λ κs a z e told. of (18 ∷ []) told (timing-bytes-by (timingOf (first a)));
+      fps-from-int = λ κs a z e told. of (16 ∷ []) told (rate-by (first a));
       smpte-new = λ κs a z e told. of (13 ∷ []) told (time-by _ _);
       smpte-read = λ κs a z e told. of (13 ∷ []) told (time-of-by _ _ _ _ _ _);
       smpte-second-f32 = λ κs a z e told. of (13 ∷ []) told (seconds-by _ _);

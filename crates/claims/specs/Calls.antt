@@ -1,14 +1,11 @@
--- What holds of every call that a function's own promise permits. The checker reads the promise from the source: `Kinds` are the function's
--- parameters and its result, `Reads.Learnt` what its `ensures` tell of the arguments, of the answer and of the arguments at the end.
--- That a call ends, and that every input gets an answer, is what the checker proves of each function, and none has a `requires`.
+-- What holds of every call that a function's own promise permits. The checker reads the promise from the source: `Reads.Learnt` of a function
+-- is what its `ensures` tell of the arguments, of the answer and of the arguments at the end, `Reads.Asked` what its `requires` ask.
+-- A claim speaks of a call by the names of its parameters: the order in which they stand is written once for each function, here and, for the
+-- exported entries, in `EntryCalls.antt`.
 use mathlib.Core.Path.{_≡_}
 use mathlib.Core.List.{List}
 use Prim.Native.Nat.{ℕ}
-use contract.Lifetimes.{Lfts}
-use denote.Ref.{now}
-use denote.Triple.Clauses.{AtExit}
-use borrow.Fn.Kind.{PK, RK}
-use borrow.Fn.Kinds.{Dens, Out, resT, endedOf}
+use denote.Ref.{RefT, now}
 use Rattle.base.specs.declared.Rules.{Rules}
 use Rattle.base.specs.declared.Running.{Running}
 use Rattle.base.specs.declared.Range.{Range}
@@ -22,8 +19,9 @@ use Rattle.event.specs.declared.read.ReadEvent.{ReadEvent}
 use Rattle.track.specs.declared.list.EventList.{EventList}
 use Rattle.track.specs.declared.read.ReadList.{ReadList}
 use Rattle.write.specs.declared.answer.WroteEvent.{WroteEvent}
-use Rattle.write.specs.declared.answer.ListLength as length
+use Rattle.write.specs.declared.answer.ListLength as measured
 use Rattle.write.specs.declared.answer.WroteList.{WroteList}
+use Rattle.rows.specs.declared.lists.ReadRows.{ReadRows}
 use Rattle.number.proofs.u28.read_u7 as read-u7
 use Rattle.number.proofs.u28.write_varlen as write-varlen
 use Rattle.number.proofs.payload.read_varlen_slice as read-varlen-slice
@@ -37,94 +35,142 @@ use Rattle.write.proofs.records.list_length as list-length
 use Rattle.write.proofs.records.write_list as write-list
 use Rattle.write.proofs.row_lists.rows_length as rows-length
 use Rattle.write.proofs.row_lists.write_rows as write-rows
+use Rattle.rows.proofs.lists.read_rows as read-rows
 
-module _ (n : ℕ) (ps : List (PK n)) (r : RK n) (Told : Out n ps r) where
+-- a call of a function: its arguments, its answer, and the arguments at its end, at any lifetimes of what is lent
+module _ {L : Type 0} {A R E : L → Type 0} (Told : (κs : L) → A κs → R κs → E κs → Type 0) where
+  -- what is shown of a call
+  abbrev pub Shows {ℓ} : Type ℓ → Type ℓ
+  Shows X = (κs : L) → A κs → R κs → E κs → X
+
   -- whatever the promise permits, the claim holds of it
-  abbrev pub Always : Out n ps r → Type 0
-  Always Claim = (κs : Lfts n) (a : Dens κs ps) (z : resT r κs .Denot) (e : AtExit (endedOf n ps r) κs) → Told κs a z e → Claim κs a z e
+  abbrev pub Always : Shows (Type 0) → Type 0
+  Always Claim = (κs : L) (a : A κs) (z : R κs) (e : E κs) → Told κs a z e → Claim κs a z e
 
   -- any two answers that it permits for the same arguments are identical
   abbrev pub OneAnswer : Type 0
-  OneAnswer =
-      (κs : Lfts n) (a : Dens κs ps) (y z : resT r κs .Denot) (d e : AtExit (endedOf n ps r) κs) → Told κs a y d → Told κs a z e → y ≡ z
+  OneAnswer = (κs : L) (a : A κs) (y z : R κs) (d e : E κs) → Told κs a y d → Told κs a z e → y ≡ z
 
-  -- and so is what a lent buffer holds at the end
-  abbrev pub OneAnswerAndEnd : ((κs : Lfts n) → AtExit (endedOf n ps r) κs → List ℕ) → Type 0
-  OneAnswerAndEnd end =
-      (κs : Lfts n) (a : Dens κs ps) (y z : resT r κs .Denot) (d e : AtExit (endedOf n ps r) κs) → Told κs a y d → Told κs a z e
-      → (y ≡ z) × (end κs d ≡ end κs e)
+  -- and so is what is shown: the answer, and what each lent value and buffer holds at the end
+  abbrev pub OneOutcome : {X : Type 0} → Shows X → Type 0
+  OneOutcome show = (κs : L) (a : A κs) (y z : R κs) (d e : E κs) → Told κs a y d → Told κs a z e → show κs a y d ≡ show κs a z e
+
+-- the arguments of a call, or what they are at its end, by their order in the source
+abbrev pub first : {A B : Type 0} → A × B → A
+first x = x .0
+
+abbrev pub second : {A B C : Type 0} → A × (B × C) → B
+second x = x .1 .0
+
+abbrev pub third : {A B C D : Type 0} → A × (B × (C × D)) → C
+third x = x .1 .1 .0
+
+abbrev pub fourth : {A B C D E : Type 0} → A × (B × (C × (D × E))) → D
+fourth x = x .1 .1 .1 .0
+
+abbrev pub fifth : {A B C D E F : Type 0} → A × (B × (C × (D × (E × F)))) → E
+fifth x = x .1 .1 .1 .1 .0
+
+abbrev pub sixth : {A B C D E F G : Type 0} → A × (B × (C × (D × (E × (F × G))))) → F
+sixth x = x .1 .1 .1 .1 .1 .0
+
+abbrev pub seventh : {A B C D E F G H : Type 0} → A × (B × (C × (D × (E × (F × (G × H)))))) → G
+seventh x = x .1 .1 .1 .1 .1 .1 .0
+
+abbrev pub eighth : {A B C D E F G H I : Type 0} → A × (B × (C × (D × (E × (F × (G × (H × I))))))) → H
+eighth x = x .1 .1 .1 .1 .1 .1 .1 .0
+
+abbrev pub ninth : {A B C D E F G H I J : Type 0} → A × (B × (C × (D × (E × (F × (G × (H × (I × J)))))))) → I
+ninth x = x .1 .1 .1 .1 .1 .1 .1 .1 .0
+
+-- what was lent: what it holds when the call begins, and at the end
+pub record Lent (A : Type 0) : Type 0 where
+  pub before : A
+  pub after : A
+
+abbrev pub lent : {A : Type 0} → RefT A → RefT A → Lent A
+lent x y = record { before = now x; after = now y }
+
+-- what is shown together
+infixr 40 _&_
+abbrev pub _&_ : {A B : Type 0} → A → B → A × B
+a & b = (a, b)
+
+-- What is shown of a call to which a buffer is lent, by names
+
+module _ {ℓ} {X : Type ℓ} where
+  -- `self.write_varlen(out, at)`, its answer, and what `out` holds at the end
+  abbrev pub writeVarlen : (u28 → List ℕ → ℕ → WroteNumber → List ℕ → X) → Shows write-varlen.Reads.Learnt X
+  writeVarlen show κs a r e = show (first a) (now (second a)) (third a) r (now (second e))
+
+  -- `write_varlen_slice(bytes, slice, out, at)`, its answer, and what `out` holds at the end
+  abbrev pub writeVarlenSlice : (List ℕ → Range → List ℕ → ℕ → WroteNumber → List ℕ → X) → Shows write-varlen-slice.Reads.Learnt X
+  writeVarlenSlice show κs a r e = show (now (first a)) (second a) (now (third a)) (fourth a) r (now (third e))
+
+  -- `read_rows(raw, at, running, rules, cells)`, its answer, and what `cells` holds at the end
+  abbrev pub readRows : (List ℕ → ℕ → Running → Rules → List ℕ → ReadRows → List ℕ → X) → Shows read-rows.Reads.Learnt X
+  readRows show κs a r e = show (now (first a)) (second a) (third a) (fourth a) (now (fifth a)) r (now (fifth e))
+
+  -- `write_event(event, running, rules, bytes, out, at)`, its answer, and what `out` holds at the end
+  abbrev pub writeEvent : (TrackEvent → Running → Rules → List ℕ → List ℕ → ℕ → WroteEvent → List ℕ → X) → Shows write-event.Reads.Learnt X
+  writeEvent show κs a r e = show (first a) (second a) (third a) (now (fourth a)) (now (fifth a)) (sixth a) r (now (fifth e))
+
+  -- `write_row(row, running, rules, bytes, out, at)`, its answer, and what `out` holds at the end
+  abbrev pub writeRow : (List ℕ → Running → Rules → List ℕ → List ℕ → ℕ → WroteEvent → List ℕ → X) → Shows write-row.Reads.Learnt X
+  writeRow show κs a r e = show (first a) (second a) (third a) (now (fourth a)) (now (fifth a)) (sixth a) r (now (fifth e))
+
+  -- `write_list(list, running, rules, bytes, out)`, its answer, and what `out` holds at the end
+  abbrev pub writeList : (EventList → Running → Rules → List ℕ → List ℕ → WroteList → List ℕ → X) → Shows write-list.Reads.Learnt X
+  writeList show κs a r e = show (first a) (second a) (third a) (now (fourth a)) (now (fifth a)) r (now (fifth e))
+
+  -- `write_rows(rows, count, running, rules, bytes, out)`, its answer, and what `out` holds at the end
+  abbrev pub writeRows : (List ℕ → ℕ → Running → Rules → List ℕ → List ℕ → WroteList → List ℕ → X) → Shows write-rows.Reads.Learnt X
+  writeRows show κs a r e = show (now (first a)) (second a) (third a) (fourth a) (now (fifth a)) (now (sixth a)) r (now (sixth e))
+
+-- Claims of every call
 
 -- `u28::read_u7(raw, at, rules)`, and its answer
 abbrev pub ReadU7 : (List ℕ → ℕ → Rules → ReadNumber → Type 0) → Type 0
-ReadU7 Claim = Always 1 read-u7.Kinds.ps read-u7.Kinds.r read-u7.Reads.Learnt (λ κs a r e. Claim (now (a .0)) (a .1 .0) (a .1 .1 .0) r)
+ReadU7 Claim = Always read-u7.Reads.Learnt (λ κs a r e. Claim (now (first a)) (second a) (third a) r)
 
--- `self.write_varlen(out, at)`, its answer, and what `out` holds at the end
 abbrev pub WriteVarlen : (u28 → List ℕ → ℕ → WroteNumber → List ℕ → Type 0) → Type 0
-WriteVarlen Claim =
-    Always 1 write-varlen.Kinds.ps write-varlen.Kinds.r write-varlen.Reads.Learnt
-    (λ κs a r e. Claim (a .0) (now (a .1 .0)) (a .1 .1 .0) r (now (e .1 .0)))
+WriteVarlen Claim = Always write-varlen.Reads.Learnt (writeVarlen Claim)
 
 -- `read_varlen_slice(raw, at, rules)`, and its answer
 abbrev pub ReadVarlenSlice : (List ℕ → ℕ → Rules → ReadSlice → Type 0) → Type 0
-ReadVarlenSlice Claim =
-    Always 1 read-varlen-slice.Kinds.ps read-varlen-slice.Kinds.r read-varlen-slice.Reads.Learnt
-    (λ κs a r e. Claim (now (a .0)) (a .1 .0) (a .1 .1 .0) r)
+ReadVarlenSlice Claim = Always read-varlen-slice.Reads.Learnt (λ κs a r e. Claim (now (first a)) (second a) (third a) r)
 
--- `write_varlen_slice(bytes, slice, out, at)`, its answer, and what `out` holds at the end
 abbrev pub WriteVarlenSlice : (List ℕ → Range → List ℕ → ℕ → WroteNumber → List ℕ → Type 0) → Type 0
-WriteVarlenSlice Claim =
-    Always 2 write-varlen-slice.Kinds.ps write-varlen-slice.Kinds.r write-varlen-slice.Reads.Learnt
-    (λ κs a r e. Claim (now (a .0)) (a .1 .0) (now (a .1 .1 .0)) (a .1 .1 .1 .0) r (now (e .1 .1 .0)))
+WriteVarlenSlice Claim = Always write-varlen-slice.Reads.Learnt (writeVarlenSlice Claim)
 
 -- `MetaMessage::read(raw, at, rules)`, and its answer
 abbrev pub MetaMessageRead : (List ℕ → ℕ → Rules → ReadMeta → Type 0) → Type 0
-MetaMessageRead Claim =
-    Always 1 read-meta.Kinds.ps read-meta.Kinds.r read-meta.Reads.Learnt (λ κs a r e. Claim (now (a .0)) (a .1 .0) (a .1 .1 .0) r)
+MetaMessageRead Claim = Always read-meta.Reads.Learnt (λ κs a r e. Claim (now (first a)) (second a) (third a) r)
 
 -- `TrackEvent::read(raw, at, running, rules)`, and its answer
 abbrev pub TrackEventRead : (List ℕ → ℕ → Running → Rules → ReadEvent → Type 0) → Type 0
-TrackEventRead Claim =
-    Always 1 read-event.Kinds.ps read-event.Kinds.r read-event.Reads.Learnt
-    (λ κs a r e. Claim (now (a .0)) (a .1 .0) (a .1 .1 .0) (a .1 .1 .1 .0) r)
+TrackEventRead Claim = Always read-event.Reads.Learnt (λ κs a r e. Claim (now (first a)) (second a) (third a) (fourth a) r)
 
 -- `EventList::read(raw, at, running, rules)`, and its answer
 abbrev pub EventListRead : (List ℕ → ℕ → Running → Rules → ReadList → Type 0) → Type 0
-EventListRead Claim =
-    Always 1 read-list.Kinds.ps read-list.Kinds.r read-list.Reads.Learnt
-    (λ κs a r e. Claim (now (a .0)) (a .1 .0) (a .1 .1 .0) (a .1 .1 .1 .0) r)
+EventListRead Claim = Always read-list.Reads.Learnt (λ κs a r e. Claim (now (first a)) (second a) (third a) (fourth a) r)
 
--- `write_event(event, running, rules, bytes, out, at)`, its answer, and what `out` holds at the end
 abbrev pub WriteEvent : (TrackEvent → Running → Rules → List ℕ → List ℕ → ℕ → WroteEvent → List ℕ → Type 0) → Type 0
-WriteEvent Claim =
-    Always 2 write-event.Kinds.ps write-event.Kinds.r write-event.Reads.Learnt
-    (λ κs a r e. Claim (a .0) (a .1 .0) (a .1 .1 .0) (now (a .1 .1 .1 .0)) (now (a .1 .1 .1 .1 .0)) (a .1 .1 .1 .1 .1 .0) r (now (e .1 .1 .1 .1 .0)))
+WriteEvent Claim = Always write-event.Reads.Learnt (writeEvent Claim)
 
--- `write_row(row, running, rules, bytes, out, at)`, its answer, and what `out` holds at the end
 abbrev pub WriteRow : (List ℕ → Running → Rules → List ℕ → List ℕ → ℕ → WroteEvent → List ℕ → Type 0) → Type 0
-WriteRow Claim =
-    Always 2 write-row.Kinds.ps write-row.Kinds.r write-row.Reads.Learnt
-    (λ κs a r e. Claim (a .0) (a .1 .0) (a .1 .1 .0) (now (a .1 .1 .1 .0)) (now (a .1 .1 .1 .1 .0)) (a .1 .1 .1 .1 .1 .0) r (now (e .1 .1 .1 .1 .0)))
+WriteRow Claim = Always write-row.Reads.Learnt (writeRow Claim)
 
 -- `list_length(list, running, rules, bytes)`, and its answer
-abbrev pub ListLength : (EventList → Running → Rules → List ℕ → length.ListLength → Type 0) → Type 0
-ListLength Claim =
-    Always 1 list-length.Kinds.ps list-length.Kinds.r list-length.Reads.Learnt
-    (λ κs a r e. Claim (a .0) (a .1 .0) (a .1 .1 .0) (now (a .1 .1 .1 .0)) r)
+abbrev pub ListLength : (EventList → Running → Rules → List ℕ → measured.ListLength → Type 0) → Type 0
+ListLength Claim = Always list-length.Reads.Learnt (λ κs a r e. Claim (first a) (second a) (third a) (now (fourth a)) r)
 
--- `write_list(list, running, rules, bytes, out)`, its answer, and what `out` holds at the end
 abbrev pub WriteList : (EventList → Running → Rules → List ℕ → List ℕ → WroteList → List ℕ → Type 0) → Type 0
-WriteList Claim =
-    Always 2 write-list.Kinds.ps write-list.Kinds.r write-list.Reads.Learnt
-    (λ κs a r e. Claim (a .0) (a .1 .0) (a .1 .1 .0) (now (a .1 .1 .1 .0)) (now (a .1 .1 .1 .1 .0)) r (now (e .1 .1 .1 .1 .0)))
+WriteList Claim = Always write-list.Reads.Learnt (writeList Claim)
 
 -- `rows_length(rows, count, running, rules, bytes)`, and its answer
-abbrev pub RowsLength : (List ℕ → ℕ → Running → Rules → List ℕ → length.ListLength → Type 0) → Type 0
-RowsLength Claim =
-    Always 2 rows-length.Kinds.ps rows-length.Kinds.r rows-length.Reads.Learnt
-    (λ κs a r e. Claim (now (a .0)) (a .1 .0) (a .1 .1 .0) (a .1 .1 .1 .0) (now (a .1 .1 .1 .1 .0)) r)
+abbrev pub RowsLength : (List ℕ → ℕ → Running → Rules → List ℕ → measured.ListLength → Type 0) → Type 0
+RowsLength Claim = Always rows-length.Reads.Learnt (λ κs a r e. Claim (now (first a)) (second a) (third a) (fourth a) (now (fifth a)) r)
 
--- `write_rows(rows, count, running, rules, bytes, out)`, its answer, and what `out` holds at the end
 abbrev pub WriteRows : (List ℕ → ℕ → Running → Rules → List ℕ → List ℕ → WroteList → List ℕ → Type 0) → Type 0
-WriteRows Claim =
-    Always 3 write-rows.Kinds.ps write-rows.Kinds.r write-rows.Reads.Learnt
-    (λ κs a r e. Claim (now (a .0)) (a .1 .0) (a .1 .1 .0) (a .1 .1 .1 .0) (now (a .1 .1 .1 .1 .0)) (now (a .1 .1 .1 .1 .1 .0)) r (now (e .1 .1 .1 .1 .1 .0)))
+WriteRows Claim = Always write-rows.Reads.Learnt (writeRows Claim)

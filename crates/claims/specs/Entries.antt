@@ -1,90 +1,102 @@
 -- Document 01, "How tight the promises are", of the entries for C and of sheets: any two answers that a function's own promise permits for
 -- the same arguments are identical, and so is what each lent value and buffer holds at the end. A line for each public function, by its path.
-use mathlib.Core.Path.{_≡_}
-use mathlib.Core.List.{List}
-use Prim.Native.Nat.{ℕ}
-use contract.Lifetimes.{Lfts}
-use denote.Ref.{now}
-use denote.Triple.Clauses.{AtExit}
-use borrow.Fn.Kind.{PK, RK}
-use borrow.Fn.Kinds.{Dens, Out, resT, endedOf}
 use Rattle.loader.proofs as loader
 use Rattle.loader_track.proofs as loader_track
 use Rattle.rows.proofs as rows
 use Rattle.event.proofs as event
-use Rattle.claims.specs.Calls.{OneAnswer}
-
-module _ (n : ℕ) (ps : List (PK n)) (r : RK n) (Told : Out n ps r) where
-  -- two answers are identical, and so is what was lent, at the end of the one call and of the other
-  abbrev pub OneOutcome : ((κs : Lfts n) → AtExit (endedOf n ps r) κs → AtExit (endedOf n ps r) κs → Type 0) → Type 0
-  OneOutcome Ends =
-      (κs : Lfts n) (a : Dens κs ps) (y z : resT r κs .Denot) (d e : AtExit (endedOf n ps r) κs) → Told κs a y d → Told κs a z e
-      → (y ≡ z) × Ends κs d e
+use Rattle.claims.specs.Calls.{OneAnswer, OneOutcome, readRows, _&_}
+use Rattle.claims.specs.EntryCalls.{numberRead, numberWrite, payloadRead, payloadWrite, formatRead, formatEncode, timingRead, timingEncode, fpsAsCode, fpsFromInt, fpsAsF32, smpteRead, smpteEncode, smpteSecondF32, smptePosition, bendAsInt, bendAsF32, bendAsF64, eventRead, eventLength, eventWrite, listRead, listLength, listWrite, eventSame, listSame}
 
 -- `loader`: numbers, payloads, and the rules of a call
 pub record NumberEntries : Type 0 where
-  pub rules : OneAnswer 0 loader.rules.Kinds.ps loader.rules.Kinds.r loader.rules.Reads.Learnt
-  pub number-read : OneOutcome 3 loader.numbers.«apk_number_read».Kinds.ps loader.numbers.«apk_number_read».Kinds.r loader.numbers.«apk_number_read».Reads.Learnt (λ κs d e. (now (d .1 .1 .1 .0) ≡ now (e .1 .1 .1 .0)) × (now (d .1 .1 .1 .1 .0) ≡ now (e .1 .1 .1 .1 .0)))
-  pub number-length : OneAnswer 0 loader.numbers.«apk_number_length».Kinds.ps loader.numbers.«apk_number_length».Kinds.r loader.numbers.«apk_number_length».Reads.Learnt
-  pub number-write : OneOutcome 2 loader.numbers.«apk_number_write».Kinds.ps loader.numbers.«apk_number_write».Kinds.r loader.numbers.«apk_number_write».Reads.Learnt (λ κs d e. (now (d .1 .0) ≡ now (e .1 .0)) × (now (d .1 .1 .1 .0) ≡ now (e .1 .1 .1 .0)))
-  pub payload-read : OneOutcome 3 loader.numbers.«apk_payload_read».Kinds.ps loader.numbers.«apk_payload_read».Kinds.r loader.numbers.«apk_payload_read».Reads.Learnt (λ κs d e. (now (d .1 .1 .1 .0) ≡ now (e .1 .1 .1 .0)) × (now (d .1 .1 .1 .1 .0) ≡ now (e .1 .1 .1 .1 .0)))
-  pub payload-write : OneOutcome 3 loader.numbers.«apk_payload_write».Kinds.ps loader.numbers.«apk_payload_write».Kinds.r loader.numbers.«apk_payload_write».Reads.Learnt (λ κs d e. (now (d .1 .1 .1 .0) ≡ now (e .1 .1 .1 .0)) × (now (d .1 .1 .1 .1 .1 .0) ≡ now (e .1 .1 .1 .1 .1 .0)))
+  pub rules : OneAnswer loader.rules.Reads.Learnt
+  pub number-read : OneOutcome loader.numbers.«apk_number_read».Reads.Learnt
+      (numberRead (λ bytes at bits value next r. r & value .after & next .after))
+  pub number-length : OneAnswer loader.numbers.«apk_number_length».Reads.Learnt
+  pub number-write : OneOutcome loader.numbers.«apk_number_write».Reads.Learnt
+      (numberWrite (λ value out at next r. r & out .after & next .after))
+  pub payload-read : OneOutcome loader.numbers.«apk_payload_read».Reads.Learnt
+      (payloadRead (λ bytes at bits start length r. r & start .after & length .after))
+  pub payload-write : OneOutcome loader.numbers.«apk_payload_write».Reads.Learnt
+      (payloadWrite (λ payload start length out at next r. r & out .after & next .after))
 
 -- `loader`: header fields
 pub record HeaderEntries : Type 0 where
-  pub format-read : OneOutcome 2 loader.fields.«apk_format_read».Kinds.ps loader.fields.«apk_format_read».Kinds.r loader.fields.«apk_format_read».Reads.Learnt (λ κs d e. now (d .1 .0) ≡ now (e .1 .0))
-  pub format-encode : OneOutcome 1 loader.fields.«apk_format_encode».Kinds.ps loader.fields.«apk_format_encode».Kinds.r loader.fields.«apk_format_encode».Reads.Learnt (λ κs d e. now (d .1 .0) ≡ now (e .1 .0))
-  pub timing-read : OneOutcome 4 loader.fields.«apk_timing_read».Kinds.ps loader.fields.«apk_timing_read».Kinds.r loader.fields.«apk_timing_read».Reads.Learnt (λ κs d e. (now (d .1 .0) ≡ now (e .1 .0)) × (now (d .1 .1 .0) ≡ now (e .1 .1 .0)) × (now (d .1 .1 .1 .0) ≡ now (e .1 .1 .1 .0)))
-  pub timing-encode : OneOutcome 1 loader.fields.«apk_timing_encode».Kinds.ps loader.fields.«apk_timing_encode».Kinds.r loader.fields.«apk_timing_encode».Reads.Learnt (λ κs d e. now (d .1 .1 .1 .0) ≡ now (e .1 .1 .1 .0))
+  pub format-read : OneOutcome loader.fields.«apk_format_read».Reads.Learnt
+      (formatRead (λ bytes format r. r & format .after))
+  pub format-encode : OneOutcome loader.fields.«apk_format_encode».Reads.Learnt
+      (formatEncode (λ format bytes r. r & bytes .after))
+  pub timing-read : OneOutcome loader.fields.«apk_timing_read».Reads.Learnt
+      (timingRead (λ bytes ticks rate subframe r. r & ticks .after & rate .after & subframe .after))
+  pub timing-encode : OneOutcome loader.fields.«apk_timing_encode».Reads.Learnt
+      (timingEncode (λ ticks rate subframe bytes r. r & bytes .after))
 
 -- `loader`: rates and SMPTE times
 pub record TimeEntries : Type 0 where
-  pub fps-from-code : OneAnswer 0 loader.smpte.«apk_fps_from_code».Kinds.ps loader.smpte.«apk_fps_from_code».Kinds.r loader.smpte.«apk_fps_from_code».Reads.Learnt
-  pub fps-as-code : OneOutcome 1 loader.smpte.«apk_fps_as_code».Kinds.ps loader.smpte.«apk_fps_as_code».Kinds.r loader.smpte.«apk_fps_as_code».Reads.Learnt (λ κs d e. now (d .1 .0) ≡ now (e .1 .0))
-  pub fps-from-int : OneOutcome 1 loader.smpte.«apk_fps_from_int».Kinds.ps loader.smpte.«apk_fps_from_int».Kinds.r loader.smpte.«apk_fps_from_int».Reads.Learnt (λ κs d e. now (d .1 .0) ≡ now (e .1 .0))
-  pub fps-as-f32 : OneOutcome 1 loader.smpte.«apk_fps_as_f32».Kinds.ps loader.smpte.«apk_fps_as_f32».Kinds.r loader.smpte.«apk_fps_as_f32».Reads.Learnt (λ κs d e. now (d .1 .0) ≡ now (e .1 .0))
-  pub smpte-new : OneAnswer 0 loader.smpte.«apk_smpte_new».Kinds.ps loader.smpte.«apk_smpte_new».Kinds.r loader.smpte.«apk_smpte_new».Reads.Learnt
-  pub smpte-read : OneOutcome 1 loader.smpte.«apk_smpte_read».Kinds.ps loader.smpte.«apk_smpte_read».Kinds.r loader.smpte.«apk_smpte_read».Reads.Learnt (λ κs d e. now (d .1 .1 .1 .1 .1 .1 .0) ≡ now (e .1 .1 .1 .1 .1 .1 .0))
-  pub smpte-encode : OneOutcome 1 loader.smpte.«apk_smpte_encode».Kinds.ps loader.smpte.«apk_smpte_encode».Kinds.r loader.smpte.«apk_smpte_encode».Reads.Learnt (λ κs d e. now (d .1 .1 .1 .1 .1 .1 .1 .0) ≡ now (e .1 .1 .1 .1 .1 .1 .1 .0))
-  pub smpte-second-f32 : OneOutcome 1 loader.smpte.«apk_smpte_second_f32».Kinds.ps loader.smpte.«apk_smpte_second_f32».Kinds.r loader.smpte.«apk_smpte_second_f32».Reads.Learnt (λ κs d e. now (d .1 .1 .1 .1 .1 .1 .1 .0) ≡ now (e .1 .1 .1 .1 .1 .1 .1 .0))
-  pub smpte-position : OneOutcome 1 loader.smpte.«apk_smpte_position».Kinds.ps loader.smpte.«apk_smpte_position».Kinds.r loader.smpte.«apk_smpte_position».Reads.Learnt (λ κs d e. now (d .1 .1 .1 .1 .1 .1 .1 .0) ≡ now (e .1 .1 .1 .1 .1 .1 .1 .0))
+  pub fps-from-code : OneAnswer loader.smpte.«apk_fps_from_code».Reads.Learnt
+  pub fps-as-code : OneOutcome loader.smpte.«apk_fps_as_code».Reads.Learnt
+      (fpsAsCode (λ rate code r. r & code .after))
+  pub fps-from-int : OneOutcome loader.smpte.«apk_fps_from_int».Reads.Learnt
+      (fpsFromInt (λ raw rate r. r & rate .after))
+  pub fps-as-f32 : OneOutcome loader.smpte.«apk_fps_as_f32».Reads.Learnt
+      (fpsAsF32 (λ rate frames r. r & frames .after))
+  pub smpte-new : OneAnswer loader.smpte.«apk_smpte_new».Reads.Learnt
+  pub smpte-read : OneOutcome loader.smpte.«apk_smpte_read».Reads.Learnt
+      (smpteRead (λ first minute second frame subframe bits time r. r & time .after))
+  pub smpte-encode : OneOutcome loader.smpte.«apk_smpte_encode».Reads.Learnt
+      (smpteEncode (λ hour minute second frame subframe rate bits bytes r. r & bytes .after))
+  pub smpte-second-f32 : OneOutcome loader.smpte.«apk_smpte_second_f32».Reads.Learnt
+      (smpteSecondF32 (λ hour minute second frame subframe rate bits seconds r. r & seconds .after))
+  pub smpte-position : OneOutcome loader.smpte.«apk_smpte_position».Reads.Learnt
+      (smptePosition (λ hour minute second frame subframe rate bits subframes r. r & subframes .after))
 
 -- `loader`: bends
 pub record BendEntries : Type 0 where
-  pub bend-min-raw-value : OneAnswer 0 loader.bends.«apk_bend_min_raw_value».Kinds.ps loader.bends.«apk_bend_min_raw_value».Kinds.r loader.bends.«apk_bend_min_raw_value».Reads.Learnt
-  pub bend-mid-raw-value : OneAnswer 0 loader.bends.«apk_bend_mid_raw_value».Kinds.ps loader.bends.«apk_bend_mid_raw_value».Kinds.r loader.bends.«apk_bend_mid_raw_value».Reads.Learnt
-  pub bend-max-raw-value : OneAnswer 0 loader.bends.«apk_bend_max_raw_value».Kinds.ps loader.bends.«apk_bend_max_raw_value».Kinds.r loader.bends.«apk_bend_max_raw_value».Reads.Learnt
-  pub bend-from-int : OneAnswer 0 loader.bends.«apk_bend_from_int».Kinds.ps loader.bends.«apk_bend_from_int».Kinds.r loader.bends.«apk_bend_from_int».Reads.Learnt
-  pub bend-from-f32 : OneAnswer 0 loader.bends.«apk_bend_from_f32».Kinds.ps loader.bends.«apk_bend_from_f32».Kinds.r loader.bends.«apk_bend_from_f32».Reads.Learnt
-  pub bend-from-f64 : OneAnswer 0 loader.bends.«apk_bend_from_f64».Kinds.ps loader.bends.«apk_bend_from_f64».Kinds.r loader.bends.«apk_bend_from_f64».Reads.Learnt
-  pub bend-as-int : OneOutcome 1 loader.bends.«apk_bend_as_int».Kinds.ps loader.bends.«apk_bend_as_int».Kinds.r loader.bends.«apk_bend_as_int».Reads.Learnt (λ κs d e. now (d .1 .0) ≡ now (e .1 .0))
-  pub bend-as-f32 : OneOutcome 1 loader.bends.«apk_bend_as_f32».Kinds.ps loader.bends.«apk_bend_as_f32».Kinds.r loader.bends.«apk_bend_as_f32».Reads.Learnt (λ κs d e. now (d .1 .0) ≡ now (e .1 .0))
-  pub bend-as-f64 : OneOutcome 1 loader.bends.«apk_bend_as_f64».Kinds.ps loader.bends.«apk_bend_as_f64».Kinds.r loader.bends.«apk_bend_as_f64».Reads.Learnt (λ κs d e. now (d .1 .0) ≡ now (e .1 .0))
+  pub bend-min-raw-value : OneAnswer loader.bends.«apk_bend_min_raw_value».Reads.Learnt
+  pub bend-mid-raw-value : OneAnswer loader.bends.«apk_bend_mid_raw_value».Reads.Learnt
+  pub bend-max-raw-value : OneAnswer loader.bends.«apk_bend_max_raw_value».Reads.Learnt
+  pub bend-from-int : OneAnswer loader.bends.«apk_bend_from_int».Reads.Learnt
+  pub bend-from-f32 : OneAnswer loader.bends.«apk_bend_from_f32».Reads.Learnt
+  pub bend-from-f64 : OneAnswer loader.bends.«apk_bend_from_f64».Reads.Learnt
+  pub bend-as-int : OneOutcome loader.bends.«apk_bend_as_int».Reads.Learnt
+      (bendAsInt (λ raw int r. r & int .after))
+  pub bend-as-f32 : OneOutcome loader.bends.«apk_bend_as_f32».Reads.Learnt
+      (bendAsF32 (λ raw float r. r & float .after))
+  pub bend-as-f64 : OneOutcome loader.bends.«apk_bend_as_f64».Reads.Learnt
+      (bendAsF64 (λ raw float r. r & float .after))
 
 -- `loader_track`: one event
 pub record EventEntries : Type 0 where
-  pub event-read : OneOutcome 4 loader_track.events.«apk_event_read».Kinds.ps loader_track.events.«apk_event_read».Kinds.r loader_track.events.«apk_event_read».Reads.Learnt (λ κs d e. (now (d .1 .1 .1 .1 .0) ≡ now (e .1 .1 .1 .1 .0)) × (now (d .1 .1 .1 .1 .1 .0) ≡ now (e .1 .1 .1 .1 .1 .0)) × (now (d .1 .1 .1 .1 .1 .1 .0) ≡ now (e .1 .1 .1 .1 .1 .1 .0)))
-  pub event-length : OneOutcome 4 loader_track.events.«apk_event_length».Kinds.ps loader_track.events.«apk_event_length».Kinds.r loader_track.events.«apk_event_length».Reads.Learnt (λ κs d e. (now (d .1 .1 .1 .1 .0) ≡ now (e .1 .1 .1 .1 .0)) × (now (d .1 .1 .1 .1 .1 .0) ≡ now (e .1 .1 .1 .1 .1 .0)))
-  pub event-write : OneOutcome 5 loader_track.events.«apk_event_write».Kinds.ps loader_track.events.«apk_event_write».Kinds.r loader_track.events.«apk_event_write».Reads.Learnt (λ κs d e. (now (d .1 .1 .1 .1 .0) ≡ now (e .1 .1 .1 .1 .0)) × (now (d .1 .1 .1 .1 .1 .1 .0) ≡ now (e .1 .1 .1 .1 .1 .1 .0)) × (now (d .1 .1 .1 .1 .1 .1 .1 .0) ≡ now (e .1 .1 .1 .1 .1 .1 .1 .0)))
+  pub event-read : OneOutcome loader_track.events.«apk_event_read».Reads.Learnt
+      (eventRead (λ bytes at running bits row used after r. r & row .after & used .after & after .after))
+  pub event-length : OneOutcome loader_track.events.«apk_event_length».Reads.Learnt
+      (eventLength (λ row payload running bits length after r. r & length .after & after .after))
+  pub event-write : OneOutcome loader_track.events.«apk_event_write».Reads.Learnt
+      (eventWrite (λ row payload running bits out at next after r. r & out .after & next .after & after .after))
 
 -- `loader_track`: lists
 pub record ListEntries : Type 0 where
-  pub list-read : OneOutcome 5 loader_track.«list_read».«apk_list_read».Kinds.ps loader_track.«list_read».«apk_list_read».Kinds.r loader_track.«list_read».«apk_list_read».Reads.Learnt (λ κs d e. (now (d .1 .1 .1 .1 .0) ≡ now (e .1 .1 .1 .1 .0)) × (now (d .1 .1 .1 .1 .1 .0) ≡ now (e .1 .1 .1 .1 .1 .0)) × (now (d .1 .1 .1 .1 .1 .1 .0) ≡ now (e .1 .1 .1 .1 .1 .1 .0)) × (now (d .1 .1 .1 .1 .1 .1 .1 .0) ≡ now (e .1 .1 .1 .1 .1 .1 .1 .0)))
-  pub list-length : OneOutcome 5 loader_track.«list_write».«apk_list_length».Kinds.ps loader_track.«list_write».«apk_list_length».Kinds.r loader_track.«list_write».«apk_list_length».Reads.Learnt (λ κs d e. (now (d .1 .1 .1 .1 .1 .0) ≡ now (e .1 .1 .1 .1 .1 .0)) × (now (d .1 .1 .1 .1 .1 .1 .0) ≡ now (e .1 .1 .1 .1 .1 .1 .0)) × (now (d .1 .1 .1 .1 .1 .1 .1 .0) ≡ now (e .1 .1 .1 .1 .1 .1 .1 .0)))
-  pub list-write : OneOutcome 6 loader_track.«list_write».«apk_list_write».Kinds.ps loader_track.«list_write».«apk_list_write».Kinds.r loader_track.«list_write».«apk_list_write».Reads.Learnt (λ κs d e. (now (d .1 .1 .1 .1 .1 .0) ≡ now (e .1 .1 .1 .1 .1 .0)) × (now (d .1 .1 .1 .1 .1 .1 .0) ≡ now (e .1 .1 .1 .1 .1 .1 .0)) × (now (d .1 .1 .1 .1 .1 .1 .1 .0) ≡ now (e .1 .1 .1 .1 .1 .1 .1 .0)) × (now (d .1 .1 .1 .1 .1 .1 .1 .1 .0) ≡ now (e .1 .1 .1 .1 .1 .1 .1 .1 .0)))
+  pub list-read : OneOutcome loader_track.«list_read».«apk_list_read».Reads.Learnt
+      (listRead (λ bytes at running bits rows count place after r. r & rows .after & count .after & place .after & after .after))
+  pub list-length : OneOutcome loader_track.«list_write».«apk_list_length».Reads.Learnt
+      (listLength (λ rows count payload running bits length after index r. r & length .after & after .after & index .after))
+  pub list-write : OneOutcome loader_track.«list_write».«apk_list_write».Reads.Learnt
+      (listWrite (λ rows count payload running bits out length after index r. r & out .after & length .after & after .after & index .after))
 
 -- `loader_track`: sameness
 pub record Sameness : Type 0 where
-  pub event-same : OneOutcome 5 loader_track.sameness.«apk_event_same».Kinds.ps loader_track.sameness.«apk_event_same».Kinds.r loader_track.sameness.«apk_event_same».Reads.Learnt (λ κs d e. now (d .1 .1 .1 .1 .0) ≡ now (e .1 .1 .1 .1 .0))
-  pub list-same : OneOutcome 5 loader_track.sameness.«apk_list_same».Kinds.ps loader_track.sameness.«apk_list_same».Kinds.r loader_track.sameness.«apk_list_same».Reads.Learnt (λ κs d e. now (d .1 .1 .1 .1 .1 .1 .0) ≡ now (e .1 .1 .1 .1 .1 .1 .0))
+  pub event-same : OneOutcome loader_track.sameness.«apk_event_same».Reads.Learnt
+      (eventSame (λ rowA bytesA rowB bytesB same r. r & same .after))
+  pub list-same : OneOutcome loader_track.sameness.«apk_list_same».Reads.Learnt
+      (listSame (λ rowsA countA bytesA rowsB countB bytesB same r. r & same .after))
 
 -- `rows`: a list read into rows of numbers
 pub record Sheets : Type 0 where
-  pub read-rows : OneOutcome 2 rows.lists.«read_rows».Kinds.ps rows.lists.«read_rows».Kinds.r rows.lists.«read_rows».Reads.Learnt (λ κs d e. now (d .1 .1 .1 .1 .0) ≡ now (e .1 .1 .1 .1 .0))
+  pub read-rows : OneOutcome rows.lists.«read_rows».Reads.Learnt (readRows (λ raw at running rules cells r end. r & end))
 
 -- `event`: one event read with the running status handed over
-pub record Lent : Type 0 where
-  pub read-step : OneAnswer 1 event.running.«read_step».Kinds.ps event.running.«read_step».Kinds.r event.running.«read_step».Reads.Learnt
+pub record HandedOver : Type 0 where
+  pub read-step : OneAnswer event.running.«read_step».Reads.Learnt
 
 -- all of them
 pub record Entries : Type 0 where
@@ -96,4 +108,4 @@ pub record Entries : Type 0 where
   pub lists : ListEntries
   pub sameness : Sameness
   pub sheets : Sheets
-  pub lent : Lent
+  pub handed-over : HandedOver

@@ -4,9 +4,6 @@ use mathlib.Core.Path.{_≡_}
 use mathlib.Core.Bool.{true}
 use mathlib.Core.List.{List, [], _∷_, map}
 use Prim.Native.Nat.{ℕ}
-use contract.Lifetimes.{Lfts}
-use borrow.Fn.Kind.{PK, RK}
-use borrow.Fn.Kinds.{Out, resT}
 use Rattle.smf.specs.Answer.{Answer}
 use Rattle.smf.specs.Lists.{ListAt, heldAs, recordsJudged}
 use Rattle.base.specs.Refusal.{numberOf}
@@ -39,37 +36,37 @@ use Rattle.claims.specs.Stands.{EventOrLeft, ListStands}
 use Rattle.claims.specs.Leaves.{EventLeaves, SizeLeaves, ListLeaves}
 
 -- whatever its promise permits, a function gives a value or refuses by one of these numbers
-abbrev pub Refuses : (n : ℕ) (ps : List (PK n)) (r : RK n) → Out n ps r → {A : Type 0} → ((κs : Lfts n) → resT r κs .Denot → Answer A) → List ℕ → Type 0
-Refuses n ps r Told says ns = Always n ps r Told (λ κs a z e. By ns (says κs z))
+abbrev pub Refuses : {L : Type 0} {A R E : L → Type 0} → ((κs : L) → A κs → R κs → E κs → Type 0) → {B : Type 0} → ((κs : L) → R κs → Answer B) → List ℕ → Type 0
+Refuses Told says ns = Always Told (λ κs a z e. By ns (says κs z))
 
 -- the functions whose refusals give the number alone, and change nothing, since nothing is lent to be changed
 pub record Numbered : Type 0 where
   -- 18: a number above its width
-  pub u2-try-from : Refuses 0 base.u2.«try_from».Kinds.ps base.u2.«try_from».Kinds.r base.u2.«try_from».Reads.Learnt (λ κs. triedU2) (18 ∷ [])
-  pub u4-try-from : Refuses 0 base.u4.«try_from».Kinds.ps base.u4.«try_from».Kinds.r base.u4.«try_from».Reads.Learnt (λ κs. triedU4) (18 ∷ [])
-  pub u7-try-from : Refuses 0 base.u7.«try_from».Kinds.ps base.u7.«try_from».Kinds.r base.u7.«try_from».Reads.Learnt (λ κs. triedU7) (18 ∷ [])
-  pub u14-try-from : Refuses 0 base.u14.«try_from».Kinds.ps base.u14.«try_from».Kinds.r base.u14.«try_from».Reads.Learnt (λ κs. triedU14) (18 ∷ [])
-  pub u15-try-from : Refuses 0 base.u15.«try_from».Kinds.ps base.u15.«try_from».Kinds.r base.u15.«try_from».Reads.Learnt (λ κs. triedU15) (18 ∷ [])
-  pub u24-try-from : Refuses 0 base.u24.«try_from».Kinds.ps base.u24.«try_from».Kinds.r base.u24.«try_from».Reads.Learnt (λ κs. triedU24) (18 ∷ [])
-  pub u28-try-from : Refuses 0 number.u28.«try_from».Kinds.ps number.u28.«try_from».Kinds.r number.u28.«try_from».Reads.Learnt (λ κs. triedU28) (18 ∷ [])
+  pub u2-try-from : Refuses base.u2.«try_from».Reads.Learnt (λ κs. triedU2) (18 ∷ [])
+  pub u4-try-from : Refuses base.u4.«try_from».Reads.Learnt (λ κs. triedU4) (18 ∷ [])
+  pub u7-try-from : Refuses base.u7.«try_from».Reads.Learnt (λ κs. triedU7) (18 ∷ [])
+  pub u14-try-from : Refuses base.u14.«try_from».Reads.Learnt (λ κs. triedU14) (18 ∷ [])
+  pub u15-try-from : Refuses base.u15.«try_from».Reads.Learnt (λ κs. triedU15) (18 ∷ [])
+  pub u24-try-from : Refuses base.u24.«try_from».Reads.Learnt (λ κs. triedU24) (18 ∷ [])
+  pub u28-try-from : Refuses number.u28.«try_from».Reads.Learnt (λ κs. triedU28) (18 ∷ [])
   -- 17: a header field under two bytes; 15: a format above 2; 16: no such rate; 18: ticks above their width
-  pub format-read : Refuses 1 header.format.Format.read.Kinds.ps header.format.Format.read.Kinds.r header.format.Format.read.Reads.Learnt (λ κs. formatRead) (15 ∷ 17 ∷ [])
-  pub timing-read : Refuses 1 header.timing.Timing.read.Kinds.ps header.timing.Timing.read.Kinds.r header.timing.Timing.read.Reads.Learnt (λ κs. timingRead) (16 ∷ 17 ∷ [])
-  pub timing-encode : Refuses 0 header.timing.Timing.encode.Kinds.ps header.timing.Timing.encode.Kinds.r header.timing.Timing.encode.Reads.Learnt (λ κs. timingEncoded) (18 ∷ [])
-  pub fps-from-int : Refuses 0 header.Fps.«from_int».Kinds.ps header.Fps.«from_int».Kinds.r header.Fps.«from_int».Reads.Learnt (λ κs. triedFps) (16 ∷ [])
+  pub format-read : Refuses header.format.Format.read.Reads.Learnt (λ κs. formatRead) (15 ∷ 17 ∷ [])
+  pub timing-read : Refuses header.timing.Timing.read.Reads.Learnt (λ κs. timingRead) (16 ∷ 17 ∷ [])
+  pub timing-encode : Refuses header.timing.Timing.encode.Reads.Learnt (λ κs. timingEncoded) (18 ∷ [])
+  pub fps-from-int : Refuses header.Fps.«from_int».Reads.Learnt (λ κs. triedFps) (16 ∷ [])
   -- 13: an SMPTE time outside its ranges; 18 where it is written
-  pub smpte-new : Refuses 0 header.SmpteTime.new.Kinds.ps header.SmpteTime.new.Kinds.r header.SmpteTime.new.Reads.Learnt (λ κs. triedSmpteTime) (13 ∷ [])
-  pub smpte-read : Refuses 0 header.SmpteTime.read.Kinds.ps header.SmpteTime.read.Kinds.r header.SmpteTime.read.Reads.Learnt (λ κs. triedSmpteTime) (13 ∷ [])
-  pub smpte-second-f32 : Refuses 0 header.SmpteTime.«second_f32».Kinds.ps header.SmpteTime.«second_f32».Kinds.r header.SmpteTime.«second_f32».Reads.Learnt (λ κs. askedSecond) (13 ∷ [])
-  pub smpte-position : Refuses 0 header.SmpteTime.position.Kinds.ps header.SmpteTime.position.Kinds.r header.SmpteTime.position.Reads.Learnt (λ κs. askedPosition) (13 ∷ [])
-  pub smpte-encode : Refuses 0 header.SmpteTime.encode.Kinds.ps header.SmpteTime.encode.Kinds.r header.SmpteTime.encode.Reads.Learnt (λ κs. encodedSmpteTime) (18 ∷ [])
+  pub smpte-new : Refuses header.SmpteTime.new.Reads.Learnt (λ κs. triedSmpteTime) (13 ∷ [])
+  pub smpte-read : Refuses header.SmpteTime.read.Reads.Learnt (λ κs. triedSmpteTime) (13 ∷ [])
+  pub smpte-second-f32 : Refuses header.SmpteTime.«second_f32».Reads.Learnt (λ κs. askedSecond) (13 ∷ [])
+  pub smpte-position : Refuses header.SmpteTime.position.Reads.Learnt (λ κs. askedPosition) (13 ∷ [])
+  pub smpte-encode : Refuses header.SmpteTime.encode.Reads.Learnt (λ κs. encodedSmpteTime) (18 ∷ [])
   -- 18: a bend above its width
-  pub bend-as-int : Refuses 0 midi.PitchBend.«as_int».Kinds.ps midi.PitchBend.«as_int».Kinds.r midi.PitchBend.«as_int».Reads.Learnt (λ κs. bendInt) (18 ∷ [])
-  pub bend-as-f32 : Refuses 0 midi.PitchBend.«as_f32».Kinds.ps midi.PitchBend.«as_f32».Kinds.r midi.PitchBend.«as_f32».Reads.Learnt (λ κs. bendF32) (18 ∷ [])
-  pub bend-as-f64 : Refuses 0 midi.PitchBend.«as_f64».Kinds.ps midi.PitchBend.«as_f64».Kinds.r midi.PitchBend.«as_f64».Reads.Learnt (λ κs. bendF64) (18 ∷ [])
+  pub bend-as-int : Refuses midi.PitchBend.«as_int».Reads.Learnt (λ κs. bendInt) (18 ∷ [])
+  pub bend-as-f32 : Refuses midi.PitchBend.«as_f32».Reads.Learnt (λ κs. bendF32) (18 ∷ [])
+  pub bend-as-f64 : Refuses midi.PitchBend.«as_f64».Reads.Learnt (λ κs. bendF64) (18 ∷ [])
   -- an event measured, and a row's event
-  pub event-length : Refuses 1 write.one.«event_length».Kinds.ps write.one.«event_length».Kinds.r write.one.«event_length».Reads.Learnt (λ κs. lengthSaid) ofLength
-  pub row-length : Refuses 1 write.one.«row_length».Kinds.ps write.one.«row_length».Kinds.r write.one.«row_length».Reads.Learnt (λ κs. lengthSaid) ofLength
+  pub event-length : Refuses write.one.«event_length».Reads.Learnt (λ κs. lengthSaid) ofLength
+  pub row-length : Refuses write.one.«row_length».Reads.Learnt (λ κs. lengthSaid) ofLength
 
 pub record Point1 : Type 0 where
   -- every refusal there is has a number of the table
