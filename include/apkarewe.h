@@ -72,7 +72,7 @@ enum apk_answer {
     APK_PAYLOAD_OUTSIDE = 19,     /* write: payload range not inside the payload bytes; start beyond the end counts even
                                      at length 0 */
     APK_NO_ROOM = 20,             /* write: no room; apk_list_read alone: cells too few for the rows read */
-    APK_TOO_MANY_EVENTS = 21,     /* write: count above APK_LIST_ROWS */
+    APK_TOO_MANY_EVENTS = 21,     /* write: count above what a list holds, APK_LIST_ROWS */
     APK_PAYLOAD_TOO_LONG = 22,    /* write: payload above 268,435,455 bytes */
     APK_UNKNOWN_NAMED = 23,       /* write: Unknown that would be read as a named kind, or refused as a short key
                                      signature */

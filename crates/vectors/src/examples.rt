@@ -1,5 +1,5 @@
 // SMF's table of numbers, its example as one track and as four, and document 01's bytes worked by hand, but for P1 to
-// P12, which are proved: lines as those of standard input, whose answers are written.
+// P12, which are proved: lines as those of standard input, whose answers are written; and lines that are wrong.
 use crate::cells::CELLS;
 use crate::lines;
 
@@ -53,7 +53,22 @@ pub fn tracks(cells: &mut [u64; CELLS]) {
     );
 }
 
-// Document 01's bytes, and the line before the stored answers.
+// Answers that are wrong: the first number, one between, the last, a byte of a buffer, one number less and one more. Each
+// is to be told, or no answer is compared.
+pub fn wrong(cells: &mut [u64; CELLS]) {
+    lines::all(
+        b"- answers that are wrong\n\
+          e 0 90 0: 0 F8= 6 0 90\n\
+          e 0 0 0: 0 90 3C 40= 0 4 90 0 9 0 3D 40 0 0 0 0 0\n\
+          n 0 0: 81 0= 0 80 3\n\
+          N 3 0 80:= 0 2 2 81 0 0\n\
+          n 0 0: 81 0= 0 80\n\
+          n 0 0: 81 0= 0 80 2 0\n",
+        cells,
+    );
+}
+
+// Document 01's bytes. More of it stands in the lines of standard input.
 pub fn worked(cells: &mut [u64; CELLS]) {
     lines::all(
         b",document 01\n.\n\
@@ -72,8 +87,7 @@ pub fn worked(cells: &mut [u64; CELLS]) {
           ,the listing's two events, room 6, lenient:\n\
           B 6 0: 00 90 3C 40 60 3C 00=\n.\n\
           ,timing e7 28:\nt: E7 28=\n.\n\
-          ,timing 80 00:\nt: 80 0=\n.\n\
-          ,the Rust's answers\n.\n",
+          ,timing 80 00:\nt: 80 0=\n.\n",
         cells,
     );
 }

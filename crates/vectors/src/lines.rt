@@ -1,6 +1,7 @@
 // Lines, each of which is asked of the port. A line begins with a letter, with # where it is a remark, with - where it
 // names the lines behind it, with , where it is words to write and with . where it ends them. The port's answer is
 // compared with the line's, and written where the line has `=` and no number behind it.
+use crate::bends;
 use crate::cells::CELLS;
 use crate::cells::Given;
 use crate::cells::LINE;
@@ -11,10 +12,13 @@ use crate::cells::same;
 use crate::fields;
 use crate::line;
 use crate::reads;
+use crate::records;
+use crate::sheets;
 use crate::text;
 use crate::text::decimal;
 use crate::text::word;
 use crate::times;
+use crate::widths;
 use crate::writes;
 use std::num::wrapping_add_u64;
 
@@ -53,6 +57,26 @@ fn answered(given: Given, bytes: &[u8], cells: &mut [u64; CELLS]) -> usize {
         b'r' => times::rate(given.b1, cells),
         b's' => times::time_read(given, cells),
         b'z' => times::time(given, cells),
+        _ => besides(given, bytes, cells),
+    }
+}
+
+// The same of numbers alone, and of lists and records.
+fn besides(given: Given, bytes: &[u8], cells: &mut [u64; CELLS]) -> usize {
+    let letter = given.letter;
+    match letter {
+        b'c' => sheets::read(given, bytes, cells),
+        b'q' => sheets::same(given, bytes, cells),
+        b'v' => records::step(given, bytes, cells),
+        b'k' => records::record(given, bytes, cells),
+        b'w' => widths::one(given, cells),
+        b'd' => widths::many(given, cells),
+        b'x' => times::frames(given, cells),
+        b'y' => times::seconds(given, cells),
+        b'm' => bends::ends(cells),
+        b'i' => bends::as_int(cells),
+        b'h' => bends::as_floats(cells),
+        b'b' => bends::made(cells),
         _ => writes::answer(given, bytes, cells),
     }
 }
@@ -111,7 +135,7 @@ fn ended(tally: Tally) -> Tally {
     }
 }
 
-// A line, and what was compared then. A name ends the group before it.
+// A line, and what was compared then. A name ends the group before it, and so do words.
 fn taken(text: &[u8], cells: &mut [u64; CELLS], tally: Tally) -> Tally {
     let start: usize = 1;
     let mut after = tally;
@@ -122,7 +146,10 @@ fn taken(text: &[u8], cells: &mut [u64; CELLS], tally: Tally) -> Tally {
     match text[0] {
         b'#' => {}
         b'.' => word(b"\n"),
-        b',' => word(&text[start..]),
+        b',' => {
+            after = ended(after);
+            word(&text[start..]);
+        }
         b'-' => {
             after = ended(after);
             word(text);

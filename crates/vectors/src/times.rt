@@ -6,13 +6,18 @@ use crate::cells::NO_RULES;
 use crate::cells::put;
 use crate::cells::put_bytes;
 use crate::cells::wide;
+use crate::floats::low32;
+use crate::floats::said;
+use crate::floats::single;
 use loader::smpte::apk_fps_as_code;
+use loader::smpte::apk_fps_as_f32;
 use loader::smpte::apk_fps_from_code;
 use loader::smpte::apk_fps_from_int;
 use loader::smpte::apk_smpte_encode;
 use loader::smpte::apk_smpte_new;
 use loader::smpte::apk_smpte_position;
 use loader::smpte::apk_smpte_read;
+use loader::smpte::apk_smpte_second_f32;
 
 // A byte as a code and as a rate.
 pub fn rate(given: u8, cells: &mut [u64; CELLS]) -> usize {
@@ -55,4 +60,22 @@ pub fn time(t: Given, cells: &mut [u64; CELLS]) -> usize {
         written as u64,
     );
     put_five(&five, cells)
+}
+
+// A rate, and the bits of its frames in a second: whether it is they, as in bends.rt.
+pub fn frames(given: Given, cells: &mut [u64; CELLS]) -> usize {
+    let mut frames: f32 = 1.0;
+    let answer = apk_fps_as_f32(given.b1, &mut frames);
+    let found = said(frames == single(low32(cells[2])));
+    put(cells, 0, answer as u64, found, 0, 0);
+    2
+}
+
+// Hour, minute, second, frame, subframe, rate, and the bits of its seconds: likewise.
+pub fn seconds(t: Given, cells: &mut [u64; CELLS]) -> usize {
+    let mut seconds: f32 = 1.0;
+    let answer = apk_smpte_second_f32(t.b1, t.b2, t.b3, t.b4, t.b5, t.b6, NO_RULES, &mut seconds);
+    let found = said(seconds == single(low32(cells[7])));
+    put(cells, 0, answer as u64, found, 0, 0);
+    2
 }

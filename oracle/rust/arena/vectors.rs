@@ -97,6 +97,26 @@ const EVENTS: [&[u8]; 52] = [
     &[0x00, 0xFF, 0xFF, 0x00],
 ];
 
+/// What a restricted number is asked, of any number of its integer: the largest value; the low bits; 0 and the number that
+/// is tried, or 18 and what is held, for the Rust gives no number there.
+type Asked = fn(u32) -> [u64; 4];
+
+macro_rules! asked {
+    ($name:ident of $inner:ident) => {
+        |raw| {
+            let (largest, low) = ($name::max_value(), $name::new(raw as $inner));
+            let tried = $name::try_from(raw as $inner);
+            let number = if tried.is_some() { 0 } else { 18 };
+            [largest.as_int() as u64, low.as_int() as u64, number, tried.map_or(HELD, |made| made.as_int() as u64)]
+        }
+    };
+}
+
+/// By their bits.
+const OF_8: [(u64, Asked); 3] = [(2, asked!(u2 of u8)), (4, asked!(u4 of u8)), (7, asked!(u7 of u8))];
+const OF_16: [(u64, Asked); 2] = [(14, asked!(u14 of u16)), (15, asked!(u15 of u16))];
+const OF_32: [(u64, Asked); 2] = [(24, asked!(u24 of u32)), (28, asked!(u28 of u32))];
+
 /// What was seen: refusals by their number, 0 for what was accepted, and kinds by the number that rows have.
 struct Lines {
     numbers: BTreeSet<u64>,
@@ -123,6 +143,7 @@ pub fn print() -> i32 {
         it.events_same();
         it.header_fields();
         it.times();
+        widths();
     }
     let numbers: &[u64] = if STRICT {
         &[0, 1, 2, 3, 4, 5, 6, 7, 8, 9, 10, 11, 12, 13, 14]
@@ -142,6 +163,35 @@ pub fn print() -> i32 {
 }
 
 // ---- which lines
+
+/// Restricted numbers: of every 8 bits, a line each; of every 16 bits, 256 to a line; of 32 bits those around the powers
+/// of two, and the last.
+fn widths() {
+    group("restricted numbers, of every 8 bits");
+    for (bits, asked) in &OF_8 {
+        (0..=0xFF).for_each(|raw| line('w', &[*bits, raw as u64], &[], &asked(raw)));
+    }
+    group("restricted numbers, of every 16 bits, 256 to a line");
+    for (bits, asked) in &OF_16 {
+        for first in (0..=0xFFFF).step_by(0x100) {
+            let sums = (first..first + 0x100).flat_map(|raw| asked(raw).to_vec()).fold([0; 2], summed);
+            line('d', &[*bits, first as u64, 0x100], &[], &sums);
+        }
+    }
+    group("restricted numbers, of 32 bits");
+    for (bits, asked) in &OF_32 {
+        let around = (0..32).flat_map(|power| (0..3).map(move |i| (1u32 << power) - 1 + i));
+        for raw in around.chain(Some(u32::MAX)).collect::<BTreeSet<_>>() {
+            line('w', &[*bits, raw as u64], &[], &asked(raw));
+        }
+    }
+}
+
+/// A sum of numbers, and the sum of the sums so far, which tells their order.
+fn summed([plain, ordered]: [u64; 2], number: u64) -> [u64; 2] {
+    let plain = plain.wrapping_add(number);
+    [plain, ordered.wrapping_add(plain)]
+}
 
 impl Lines {
     /// Strings of the ends of seven and eight bits, and of four bytes and more that go on; at places inside, at the end
