@@ -44,7 +44,7 @@ impl u2 {
     pub fn as_int(self) -> u8
         ensures { λ r. ⌜ r ≡ self .0 ⌝ }
     {
-        self.0
+        self.0 // an SMPTE rate code
     }
 }
 
@@ -76,7 +76,7 @@ impl u4 {
     pub fn as_int(self) -> u8
         ensures { λ r. ⌜ r ≡ self .0 ⌝ }
     {
-        self.0
+        self.0 // a channel
     }
 }
 
@@ -108,7 +108,7 @@ impl u7 {
     pub fn as_int(self) -> u8
         ensures { λ r. ⌜ r ≡ self .0 ⌝ }
     {
-        self.0
+        self.0 // a data byte
     }
 }
 
@@ -140,7 +140,7 @@ impl u14 {
     pub fn as_int(self) -> u16
         ensures { λ r. ⌜ r ≡ self .0 ⌝ }
     {
-        self.0
+        self.0 // a bend
     }
 }
 
@@ -172,7 +172,7 @@ impl u15 {
     pub fn as_int(self) -> u16
         ensures { λ r. ⌜ r ≡ self .0 ⌝ }
     {
-        self.0
+        self.0 // ticks per beat
     }
 }
 
@@ -204,6 +204,6 @@ impl u24 {
     pub fn as_int(self) -> u32
         ensures { λ r. ⌜ r ≡ self .0 ⌝ }
     {
-        self.0
+        self.0 // microseconds per beat
     }
 }
