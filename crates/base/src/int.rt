@@ -46,7 +46,7 @@ impl u2 {
     pub fn as_int(self) -> u8
         ensures { λ r. ⌜ r ≡ self .0 ⌝ }
     {
-        self.0
+        self.0 // an SMPTE rate code
     }
 }
 
@@ -78,7 +78,7 @@ impl u4 {
     pub fn as_int(self) -> u8
         ensures { λ r. ⌜ r ≡ self .0 ⌝ }
     {
-        self.0
+        self.0 // a channel
     }
 }
 
@@ -110,7 +110,7 @@ impl u7 {
     pub fn as_int(self) -> u8
         ensures { λ r. ⌜ r ≡ self .0 ⌝ }
     {
-        self.0
+        self.0 // a data byte
     }
 }
 
@@ -142,7 +142,7 @@ impl u14 {
     pub fn as_int(self) -> u16
         ensures { λ r. ⌜ r ≡ self .0 ⌝ }
     {
-        self.0
+        self.0 // a bend
     }
 }
 
@@ -174,7 +174,7 @@ impl u15 {
     pub fn as_int(self) -> u16
         ensures { λ r. ⌜ r ≡ self .0 ⌝ }
     {
-        self.0
+        self.0 // ticks per beat
     }
 }
 
@@ -206,6 +206,6 @@ impl u24 {
     pub fn as_int(self) -> u32
         ensures { λ r. ⌜ r ≡ self .0 ⌝ }
     {
-        self.0
+        self.0 // microseconds per beat
     }
 }

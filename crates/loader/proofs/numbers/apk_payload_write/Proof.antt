@@ -1,14 +1,19 @@
 -- `loader::numbers::apk_payload_write` meets its contract, by what `write_varlen_slice` ensures of its answer and of the buffer. Assumes nothing.
-use mathlib.Core.Path.{refl}
+use mathlib.Core.Path.{refl, sym}
+use Rattle.smf.specs.Write.{write, payloadBytes}
 use borrow.Author.Needs.{needs}
 use Rattle.loader.proofs.numbers.apk_payload_write.Statement.{statement}
 use Rattle.loader.proofs.numbers.apk_payload_write.Tie as tie
 
 returns : tie.Need-returns
-returns c = simp (← c .number .ensures, c .before .before .refusal .given .1, ← c .before .before .before .before .before .before .write-varlen-slice .ensures) (refl, (refl, refl))
+returns c =
+    let a = c .before .before .before .before .before .before .before .before .before .before .args in
+    simp (← c .number .ensures, c .before .before .refusal .given .1, sym {b = write (payloadBytes (a .payload .now) (a .start) (a .length)) (a .out .now) (a .at)} (c .before .before .before .before .before .before .write-varlen-slice .ensures)) (refl, (refl, refl))
 
 returns-2 : tie.Need-returns-2
-returns-2 c = simp (c .before .end .given .1, ← c .before .before .before .before .before .write-varlen-slice .ensures) (refl, (refl, refl))
+returns-2 c =
+    let a = c .before .before .before .before .before .before .before .before .before .args in
+    simp (c .before .end .given .1, sym {b = write (payloadBytes (a .payload .now) (a .start) (a .length)) (a .out .now) (a .at)} (c .before .before .before .before .before .write-varlen-slice .ensures)) (refl, (refl, refl))
 
 pub apk-payload-write-spec : {M : Type 1} → statement M
 apk-payload-write-spec =

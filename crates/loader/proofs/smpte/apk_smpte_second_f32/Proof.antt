@@ -4,6 +4,15 @@ use borrow.Author.Needs.{needs}
 use Rattle.loader.proofs.smpte.apk_smpte_second_f32.Statement.{statement}
 use Rattle.loader.proofs.smpte.apk_smpte_second_f32.Tie as tie
 
+returns : tie.Need-returns
+returns c = simp (← c .number .ensures, c .before .before .refusal .given .1, ← c .before .before .before .before .time-given .ensures) (refl, refl)
+
+returns-2 : tie.Need-returns-2
+returns-2 c = simp (← c .number2 .ensures, c .before .before .refusal2 .given .1, ← c .before .before .before .before .second-f32 .ensures, ← c .before .before .before .before .before .rules .ensures, c .before .before .before .before .before .before .before .time .given .1, ← c .before .before .before .before .before .before .before .before .before .time-given .ensures) (refl, refl)
+
+returns-3 : tie.Need-returns-3
+returns-3 c = simp (c .before .found .given .1, ← c .before .before .before .second-f32 .ensures, ← c .before .before .before .before .rules .ensures, c .before .before .before .before .before .before .time .given .1, ← c .before .before .before .before .before .before .before .before .time-given .ensures) (refl, refl)
+
 pub apk-smpte-second-f32-spec : {M : Type 1} → statement M
 apk-smpte-second-f32-spec =
     tie.close
@@ -17,6 +26,6 @@ apk-smpte-second-f32-spec =
     (λ c. search needs)
     (λ c κs. search needs)
     (λ c. search needs)
-    (λ c. simp (← c .number .ensures, c .before .before .refusal .given .1, ← c .before .before .before .before .time-given .ensures) (refl, refl))
-    (λ c. simp (← c .number2 .ensures, c .before .before .refusal2 .given .1, ← c .before .before .before .before .second-f32 .ensures, ← c .before .before .before .before .before .rules .ensures, c .before .before .before .before .before .before .before .time .given .1, ← c .before .before .before .before .before .before .before .before .before .time-given .ensures) (refl, refl))
-    (λ c. simp (c .before .found .given .1, ← c .before .before .before .second-f32 .ensures, ← c .before .before .before .before .rules .ensures, c .before .before .before .before .before .before .time .given .1, ← c .before .before .before .before .before .before .before .before .time-given .ensures) (refl, refl)))
+    returns
+    returns-2
+    returns-3)
