@@ -24,8 +24,9 @@
  * What is proved. Of each entry, for all numbers and bytes that it can be given: it ends, it reads and writes within
  * the slices only, its answer is the one that its definition gives, and so is what each lent value and each lent byte
  * holds at the end, after a refusal too. The definition is named with each entry: smf.Lists.listAt is listAt in
- * crates/smf/specs/Lists.antt. Definitions are written from Standard MIDI Files 1.0 and from the project's rules
- * (docs/RULES.md), not from the code. Proved of the definitions: what is written is read back, strictly and leniently,
+ * crates/smf/specs/Lists.antt. Those of smf are written from Standard MIDI Files 1.0 and from the project's rules
+ * (docs/RULES.md), not from the code; those of loader, loader_track, rows, same and write say how C sees an event, and
+ * are made of them. Proved of the definitions: what is written is read back, strictly and leniently,
  * whatever follows it; every event that is read is legal; no bytes that are read strictly as an event are shorter than
  * those that are written for it. Not proved, but compared in runs: that midly 0.5.3 answers alike, see
  * docs/DIFFERENCES.md.
@@ -151,8 +152,9 @@ uint8_t apk_list_read(const uint8_t *bytes, size_t bytes_len, size_t at, uint8_t
  *   length                how many bytes; as it came after a refusal
  *   after                 the running status after them; after a refusal, as given
  *   index                 after a refusal the index of the first illegal event, 0 for 1, 20 and 21; else as it came
- * Refuses 1, then 21, then the first illegal event by 18, 19, 22 or 23. A row that is no event's (no such kind, a field
- * that no event can hold, or not all of its cells there) is refused by 18.
+ * Refuses 1, then 21, then the first illegal event by 18, 19, 22 or 23. A row that is no event's is refused by 18: no
+ * such kind; a field that is no byte (of a bend or a track number above 65,535, of a tempo or the delta above
+ * 4,294,967,295); a rate that is none; or not all of its cells there.
  * Definition: loader_track.Lists.sheetSize, that is smf.Lists.sizeList of the rows' events. */
 uint8_t apk_list_length(const uint64_t *rows, size_t cells, size_t count, const uint8_t *payload, size_t payload_len,
                         uint8_t running, uint8_t rules, size_t *length, uint8_t *after, size_t *index);

@@ -7,15 +7,16 @@ use native.Mathlib.Omega.{arith}
 use lib.ListN.{length, take, drop, length-map, length-take, length-append}
 use lib.Seq.{take-at, drop-at, take-length, length-take-le}
 use denote.Ref.{now}
+use Rattle.smf.specs.Place.{bytesOf}
 use Rattle.smf.specs.Answer.{Answer, gives, refuses, Rules, strictOf}
 use Rattle.smf.specs.Running.{isRunning}
 use Rattle.smf.specs.Write.{over}
-use Rattle.smf.specs.Event.{Event, mapEvent, bytesOf, Same, isLegal, encodeEvent, EventWritten, writeEvent}
+use Rattle.smf.specs.Event.{Event, mapEvent, Same, encodeEvent, EventWritten, writeEvent}
 use Rattle.smf.specs.Lists.{listed, ListAt, ended, listAt, wrote, ListWritten, writeList, SameList}
 use Rattle.smf.proofs.Answer.{by-test}
 use Rattle.smf.proofs.Write.{put-fits}
 use Rattle.smf.proofs.Event as smf
-use Rattle.smf.proofs.Legal.{legal-strictly}
+use Rattle.smf.proofs.Legal.{isLegal, legal-strictly}
 use Rattle.smf.proofs.ListLegality.{given-itself, given-length}
 use Rattle.track.specs.List.{capacity}
 use Rattle.rows.specs.Rows.{width}

@@ -8,12 +8,12 @@ use lib.ListN.{length, take, replicate, length-map}
 use lib.Seq.{take-append-seam, length-take-le}
 use Rattle.smf.specs.Answer.{Rules, strictOf, gives}
 use Rattle.smf.specs.Running.{isRunning}
-use Rattle.smf.specs.Place.{Span}
+use Rattle.smf.specs.Place.{Span, bytesOf}
 use Rattle.smf.specs.Write.{over}
-use Rattle.smf.specs.Event.{Event, mapEvent, bytesOf, Same, isLegal, legal, encodeEvent, EventWritten, writeEvent}
+use Rattle.smf.specs.Event.{Event, mapEvent, Same, legal, encodeEvent, EventWritten, writeEvent}
 use Rattle.smf.specs.Lists.{recordsJudged, listed, ListAt, listAt, filler, holding, heldAs, ListHeld, wrote, ListWritten, writeList, counted}
 use Rattle.smf.proofs.Event as smf
-use Rattle.smf.proofs.Legal.{legal-strictly}
+use Rattle.smf.proofs.Legal.{isLegal, legal-strictly}
 use Rattle.smf.proofs.Lists.{list-ended}
 use Rattle.smf.proofs.ListLegality.{given-itself, records-themselves}
 use Rattle.smf.proofs.ListPlaces.{list-reached}

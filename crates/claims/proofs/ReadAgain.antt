@@ -5,8 +5,9 @@ use Prim.Native.Nat.{ℕ}
 use native.Mathlib.Omega.{arith}
 use lib.ListN.{length, take}
 use lib.Seq.{length-take-le}
+use Rattle.smf.specs.Place.{bytesOf}
 use Rattle.smf.specs.Answer.{Answer, gives, Rules, strictOf}
-use Rattle.smf.specs.Event.{Event, mapEvent, bytesOf}
+use Rattle.smf.specs.Event.{Event, mapEvent}
 use Rattle.smf.specs.Lists.{ListAt, ended, listAt, wrote, ListWritten, writeList}
 use Rattle.smf.proofs.Lists.{list-ended}
 use Rattle.smf.proofs.ListLegality.{Lawful}

@@ -12,7 +12,7 @@ use Rattle.smf.specs.Running.{isRunning}
 use Rattle.smf.specs.Width.{tryWidth}
 use Rattle.smf.specs.Number.{Numeral, numberFrom, readNumber}
 use Rattle.smf.specs.Payload.{payloadAfter, readPayload}
-use Rattle.smf.specs.Place.{Span, numberAt, payloadAt}
+use Rattle.smf.specs.Place.{Span, numberAt, payloadAt, inside}
 use Rattle.smf.specs.Write.{Written, put, write, numberBytes, part, loadBytes, payloadBytes}
 use Rattle.smf.specs.Header.{readField, isFormat, toFormat, readFormat, Timing, isTiming, timingFrom, readTiming, encodeTiming}
 use Rattle.smf.specs.Smpte.{Time, isRate, toRate, isTime, toTime, timeOf, encodeTime, position}
@@ -20,11 +20,11 @@ use Rattle.smf.specs.Seconds.{secondsOf}
 use Rattle.smf.specs.Bend.{askBend, askFloat}
 use Rattle.smf.specs.Kind.{isText, narrow, calledMeta}
 use Rattle.smf.specs.MetaAt.{readMetaMessage, metaAt}
-use Rattle.smf.specs.Event.{Event, kindFits, kindLoad, inside, kindMisnamed, noSpan, spanLength, legal}
+use Rattle.smf.specs.Event.{Event, kindFits, kindLoad, kindMisnamed, noSpan, spanLength, legal}
 use Rattle.smf.proofs.Answer.{by-test, pick-both, pick-test, both}
 use Rattle.rows.specs.RowEvent.{isRow, calledRow, eventOfRow, rowJudged}
 use Rattle.write.specs.Raw.{rawJudged}
-use Rattle.write.specs.Size.{eventSize, sizeEvent}
+use Rattle.write.specs.Size.{sizeJudged, sizeEvent}
 use Rattle.claims.specs.Table.{inTable, among, OneOf, By, Keeps, ofNumber, ofPayload, ofMeta, ofLegality, ofLength}
 
 -- going on with a value
@@ -241,7 +241,7 @@ number-bytes-by v = then-by (18 ∷ []) (tryWidth 28 v) _ (width-by 28 v) (λ n.
 pub payload-bytes-by : (bytes : List ℕ) (start n : ℕ) → By (19 ∷ 22 ∷ []) (payloadBytes bytes start n)
 unfolding payloadBytes part loadBytes
 payload-bytes-by bytes start n =
-    then-by (19 ∷ 22 ∷ []) (pick (leb (start + n) (length bytes)) (gives _) (refuses 19)) _ (pick-both (By (19 ∷ 22 ∷ [])) (leb (start + n) (length bytes)) tt refl)
+    then-by (19 ∷ 22 ∷ []) (pick (inside bytes (record { start = start; length = n })) (gives _) (refuses 19)) _ (pick-both (By (19 ∷ 22 ∷ [])) (inside bytes (record { start = start; length = n })) tt refl)
     (λ p. pick-both (By (19 ∷ 22 ∷ [])) (ltb (length p) (2 ^ 28)) tt refl)
 
 -- the bytes of a thing, put at a place: its own numbers, and 20
@@ -272,8 +272,8 @@ module _ (rules : Rules) (bytes : List ℕ) where
 
 -- an event as it was judged, measured
 pub event-length-by : (running : ℕ) (j : Answer (Event (List ℕ))) → By ofLegality j → By ofLength (sizeEvent running j)
-unfolding sizeEvent eventSize rawJudged
+unfolding sizeEvent sizeJudged rawJudged
 event-length-by running j h =
     pick-both (By ofLength) (isRunning running)
-    (by-more ofLength ofLegality (eventSize running j) refl (then-by ofLegality (rawJudged j) _ (then-by ofLegality j _ h (λ e. tt)) (λ raw. tt)))
+    (by-more ofLength ofLegality (sizeJudged running j) refl (then-by ofLegality (rawJudged j) _ (then-by ofLegality j _ h (λ e. tt)) (λ raw. tt)))
     refl

@@ -14,7 +14,6 @@ ghost use Rattle.base.specs.Refusal.{numberOf};
 ghost use Rattle.event.specs.Event.{kindOf, eventUsed, eventRead};
 use crate::TrackEvent;
 use crate::TrackEventKind;
-use crate::message::read;
 use base::Refusal;
 use base::Rules;
 use base::Running;

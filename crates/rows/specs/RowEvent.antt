@@ -1,5 +1,6 @@
 -- The event of a row, by the layout of `Rows`: the delta, the kind's number, six fields, the payload's start and length.
--- What a kind does not use of a row is not looked at.
+-- What a kind does not use of a row is not looked at. A row is no event's where a number is above what an event's field can hold: that is wider
+-- than what is legal, so that an event which no writer takes can still be handed over and compared.
 use mathlib.Core.Bool.{Bool, true, _&&_, _||_, not}
 use mathlib.Core.List.{List}
 use Prim.Native.Nat.{ℕ, _-_, _^_}

@@ -7,7 +7,7 @@ use native.Mathlib.Numerals.{add-one}
 use native.Mathlib.Omega.{arith}
 use lib.ListN.{length, take, drop, getD, length-take, length-drop}
 use lib.Seq.{length-take-le, take-suc, take-all, take-length, getD-take, getD-drop}
-use Rattle.smf.specs.Event.{bytesOf}
+use Rattle.smf.specs.Place.{bytesOf}
 use Rattle.smf.proofs.Answer.{by-lt}
 use Rattle.same.specs.Same.{Tells, span}
 use Rattle.same.proofs.SameTests.{tells-too}

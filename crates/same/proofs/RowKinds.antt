@@ -13,11 +13,11 @@ use denote.Laws.{Is}
 use denote.Enum.Declared.{row}
 use borrow.Author.Needs.{needs}
 use Rattle.smf.specs.Answer.{pick}
-use Rattle.smf.specs.Place.{Span}
+use Rattle.smf.specs.Place.{Span, bytesOf}
 use Rattle.smf.specs.Signed.{signedByte}
 use Rattle.smf.specs.Smpte.{time}
 use Rattle.smf.specs.Kind as kind
-use Rattle.smf.specs.Event.{mapMeta, mapKind, loadOr, metaCarries, carries, kindLoad, noSpan, bytesOf}
+use Rattle.smf.specs.Event.{mapMeta, mapKind, loadOr, metaCarries, carries, kindLoad, noSpan}
 use Rattle.smf.proofs.Signed.{signed-back}
 use Rattle.midi.specs.declared.MidiMessage.the-variants as midi
 use Rattle.meta.specs.declared.OptionU16.the-variants as option

@@ -6,8 +6,8 @@ use Prim.Native.Nat.{ℕ, zero, suc, _+_, _-_, _*_, _<_, _≤_}
 use native.Mathlib.Omega.{arith}
 use lib.ListN.{length, take, drop}
 use lib.Seq.{drop-drop, take-all}
-use Rattle.smf.specs.Place.{Span}
-use Rattle.smf.specs.Event.{Event, mapEvent, bytesOf}
+use Rattle.smf.specs.Place.{Span, bytesOf}
+use Rattle.smf.specs.Event.{Event, mapEvent}
 use Rattle.smf.specs.Lists.{Counted, SameList}
 use Rattle.smf.proofs.Answer.{both}
 use Rattle.rows.specs.Rows.{width}

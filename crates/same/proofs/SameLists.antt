@@ -6,8 +6,8 @@ use native.Mathlib.Omega.{arith}
 use native.Mathlib.Numerals.{add-one}
 use lib.ListN.{length, take, getD, length-map, List·getD-map}
 use lib.Seq.{take-all}
-use Rattle.smf.specs.Place.{Span}
-use Rattle.smf.specs.Event.{Event, mapEvent, bytesOf, Same}
+use Rattle.smf.specs.Place.{Span, bytesOf}
+use Rattle.smf.specs.Event.{Event, mapEvent, Same}
 use Rattle.smf.specs.Lists.{listed, Counted, counted, SameList}
 use Rattle.track.specs.List.{recordOf}
 use Rattle.track.specs.declared.list.Record.{Record}

@@ -5,8 +5,8 @@ use mathlib.Core.List.{List}
 use Prim.Native.Nat.{ℕ}
 use lib.Dec.{eqb}
 use borrow.Author.Tests.{eqb-true, eqb-false}
-use Rattle.smf.specs.Place.{Span}
-use Rattle.smf.specs.Event.{Event, event, mapKind, mapEvent, bytesOf, Same}
+use Rattle.smf.specs.Place.{Span, bytesOf}
+use Rattle.smf.specs.Event.{Event, event, mapKind, mapEvent, Same}
 use Rattle.rows.specs.declared.Row.{Row}
 use Rattle.same.specs.Same.{Tells, rowFields}
 

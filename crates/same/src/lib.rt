@@ -3,7 +3,8 @@
 ghost use mathlib.Core.Path.{_≡_};
 ghost use Prim.Native.Nat.{_-_, _≤_};
 ghost use lib.ListN.{length};
-ghost use Rattle.smf.specs.Event.{mapKind, bytesOf, Same};
+ghost use Rattle.smf.specs.Place.{bytesOf};
+ghost use Rattle.smf.specs.Event.{mapKind, Same};
 ghost use Rattle.event.specs.Event.{kindOf, eventOf};
 ghost use Rattle.same.specs.Same.{Tells, span, rowFields, loadSpan};
 use event::TrackEvent;

@@ -10,13 +10,13 @@ use lib.ListN.{length, take, drop, getD, length-drop}
 use lib.Seq.{length-take-le, getD-take, getD-drop}
 use borrow.Author.Tests.{lt-ltb, le-ltb, le-leb, lt-leb, ne-eqb}
 use Rattle.smf.specs.Answer.{pick, Answer, gives, refuses, andThen, Rules}
-use Rattle.smf.specs.Place.{Span}
+use Rattle.smf.specs.Place.{Span, bytesOf}
 use Rattle.smf.specs.Signed.{signedByte}
 use Rattle.smf.specs.Smpte.{Time, timeOf}
 use Rattle.smf.specs.Header.{word}
 use Rattle.smf.specs.Kind.{Meta, trackNumber, noTrackNumber, text, tempo, timeSignature, keySignature, midiChannel, midiPort, endOfTrack, smpteOffset, sequencerSpecific, unknown}
 use Rattle.smf.specs.Kind.{byte, isText, trackNumberOf, from, narrow, tempoOf, timeIn, signatureOf, keyOf, calledMeta}
-use Rattle.smf.specs.Event.{mapMeta, bytesOf}
+use Rattle.smf.specs.Event.{mapMeta}
 use Rattle.smf.specs.MetaAt.{MetaAt}
 use Rattle.smf.proofs.MetaAt.{calledAt}
 

@@ -12,12 +12,13 @@ use lib.Seq.{drop-drop, length-take-le}
 use borrow.Author.Tests.{lt-ltb, ltb-true, leb-true, not-true}
 use Rattle.smf.specs.Answer.{Answer, gives, refuses, Rules, leniently}
 use Rattle.smf.specs.Running.{isRunning}
-use Rattle.smf.specs.Place.{Span, placeOf}
+use Rattle.smf.specs.Place.{Span, placeOf, inside, bytesOf}
 use Rattle.smf.specs.Wire.{RawEvent, rawEvent, Taken, taken, Reading, reads, refused, readRaw, encodeRawEvent, runningAfter}
 use Rattle.smf.specs.Kind.{Meta, trackNumber, noTrackNumber, text, midiChannel, midiPort, endOfTrack, tempo, smpteOffset, timeSignature, keySignature, sequencerSpecific, unknown}
 use Rattle.smf.specs.Kind.{Kind, midi, sysEx, escape, meta, called, rawOf}
 use Rattle.smf.specs.Event.{Event, event, mapMeta, mapKind, mapEvent, named, nameRaw, readEvent, EventAt, spanBefore, eventPlaced, ReadAt, readsAt, refusedAt, placed, eventAt}
-use Rattle.smf.specs.Event.{metaFits, kindFits, Carried, nothing, owned, untold, metaCarries, carries, loadOr, kindLoad, inside, bytesOf, isNamed, misnamed, kindMisnamed, isLegal, noSpan, spanLength, legal, encodeEvent}
+use Rattle.smf.specs.Event.{metaFits, kindFits, Carried, nothing, owned, untold, metaCarries, carries, loadOr, kindLoad, isNamed, misnamed, kindMisnamed, noSpan, spanLength, legal, encodeEvent}
+use Rattle.smf.proofs.Legal.{isLegal}
 use Rattle.smf.proofs.Answer.{pick-test, both, said-of, Alike, Gives}
 use Rattle.smf.proofs.Ends.{Ends, ends-bare, ends-length, ends-tail, ends-load}
 use Rattle.smf.proofs.Wire.{load-small, after-runs, raw-reads-back, Read, RawRead, raw-read, raw-event-length, ReadsAlike, raw-alike}

@@ -1,15 +1,24 @@
 -- Legality: whether bytes are read strictly or leniently does not touch it.
 use mathlib.Core.Path.{_≡_, refl, _∙_}
-use mathlib.Core.Bool.{true}
+use mathlib.Core.Bool.{Bool, true, _&&_, not}
 use mathlib.Core.List.{List, [], _∷_}
-use Prim.Native.Nat.{ℕ}
+use Prim.Native.Nat.{ℕ, _^_}
+use lib.Dec.{ltb}
 use lib.ListN.{length}
 use Rattle.smf.specs.Answer.{Rules, strictOf}
 use Rattle.smf.specs.Smpte.{isTime}
 use Rattle.smf.specs.Kind.{Message, noteOff, noteOn, aftertouch, controller, programChange, channelAftertouch, pitchBend}
 use Rattle.smf.specs.Kind.{Meta, trackNumber, noTrackNumber, text, midiChannel, midiPort, endOfTrack, tempo, smpteOffset, timeSignature, keySignature, sequencerSpecific, unknown}
 use Rattle.smf.specs.Kind.{Kind, midi, sysEx, escape, meta}
-use Rattle.smf.specs.Event.{Event, messageFits, metaFits, kindFits, Carried, nothing, owned, untold, carries, isNamed, misnamed, isLegal}
+use Rattle.smf.specs.Event.{Event, messageFits, metaFits, kindFits, Carried, nothing, owned, untold, carries, kindLoad, isNamed, misnamed, kindMisnamed}
+
+-- whether an event is legal of itself, whatever record and payload bytes it came from
+unfoldable pub isLegal : Rules → Event (List ℕ) → Bool
+isLegal rules e =
+    ltb (e .delta) (2 ^ 28)
+    && kindFits rules (e .kind)
+    && ltb (length (kindLoad [] (e .kind))) (2 ^ 28)
+    && not (kindMisnamed rules length (e .kind))
 
 -- each event of a list is legal
 abbrev pub AllLegal : Rules → List (Event (List ℕ)) → Type 0

@@ -9,11 +9,11 @@ use native.Mathlib.Omega.{arith}
 use lib.ListN.{length, take, drop, getD}
 use lib.Seq.{drop-cons}
 use Rattle.smf.specs.Answer.{Answer, gives, refuses, Rules}
-use Rattle.smf.specs.Place.{Span}
-use Rattle.smf.specs.Event.{Event, mapEvent, isLegal, bytesOf, legal}
+use Rattle.smf.specs.Place.{Span, bytesOf}
+use Rattle.smf.specs.Event.{Event, mapEvent, legal}
 use Rattle.smf.specs.Lists.{recordsJudged, Checked, allLegal, illegal, withEvent, checkOn, check, listed}
 use Rattle.smf.proofs.Event.{legal-exactly}
-use Rattle.smf.proofs.Legal.{AllLegal}
+use Rattle.smf.proofs.Legal.{isLegal, AllLegal}
 
 -- those before the k-th are legal, and it is refused by n
 pub record FirstIllegal (judged : List (Answer (Event (List ℕ)))) (n k : ℕ) : Type 0 where

@@ -10,9 +10,9 @@ use lib.ListN.{length, take, drop, getD, length-drop, drop-of-length-le}
 use lib.Seq.{drop-drop, drop-cons, length-take-le}
 use Rattle.smf.specs.Answer.{pick, Answer, gives, refuses, andThen, Rules}
 use Rattle.smf.specs.Payload.{Payload, payload, readPayload}
-use Rattle.smf.specs.Place.{placeOf, Span, payloadPlaced, payloadAt}
+use Rattle.smf.specs.Place.{placeOf, Span, payloadPlaced, payloadAt, bytesOf}
 use Rattle.smf.specs.Kind.{Meta, midiChannel, midiPort, smpteOffset, byte, isText, trackNumberOf, narrow, timeIn, calledMeta}
-use Rattle.smf.specs.Event.{mapMeta, spanBefore, bytesOf}
+use Rattle.smf.specs.Event.{mapMeta, spanBefore}
 use Rattle.smf.specs.MetaAt.{MetaTaken, metaNamed, readMetaMessage, MetaAt, metaPlaced, metaAt}
 use Rattle.smf.proofs.Answer.{pick-both, said-of, said-refused}
 use Rattle.smf.proofs.Payload.{Loaded, PayloadLoaded, payload-loaded}

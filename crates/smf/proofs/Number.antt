@@ -11,7 +11,7 @@ use lib.Dec.{ltb, eqb}
 use lib.ListN.{length, take, drop, length-append, take-append-drop}
 use borrow.Author.Tests.{lt-ltb, le-ltb, ltb-true, ltb-false, eq-eqb, ne-eqb}
 use Rattle.smf.specs.Answer.{pick, Answer, gives, refuses, Rules, strictly, leniently}
-use Rattle.smf.specs.Number.{joined, none, isNumber, valueFrom, ahead, encodeNumber, Numeral, numeral, numberFrom, readNumber}
+use Rattle.smf.specs.Number.{joined, noMore, isNumber, valueFrom, ahead, encodeNumber, Numeral, numeral, numberFrom, readNumber}
 use Rattle.smf.proofs.Answer.{pick-test, said-of, Alike, pick-alike, strictly-alike}
 
 -- The groups ahead of the last
@@ -139,7 +139,7 @@ encode-value v f = ahead-value 3 (v / 128) ((v % 128) ∷ []) (omega arith) ∙ 
 
 -- Reading
 
-none-nil : (bs : List ℕ) → none bs ≡ true → bs ≡ []
+none-nil : (bs : List ℕ) → noMore bs ≡ true → bs ≡ []
 none-nil [] h = refl
 none-nil (b ∷ bs) h = let z : _≡_ {A = ℕ} 0 1 = cc in absurd (omega arith)
 
@@ -151,7 +151,7 @@ number-read rules zero bits n rest h = let z : _≡_ {A = ℕ} 0 1 = cc in absur
 number-read rules (suc k) bits [] rest h = let z : _≡_ {A = ℕ} 0 1 = cc in absurd (omega arith)
 number-read rules (suc k) bits (b ∷ bs) rest h = by (ltb b 128) (λ e. number-read rules k (joined bits b) bs rest e) h where
   by : (t : Bool) → (isNumber k bs ≡ true → numberFrom rules k (joined bits b) (bs ++ rest) ≡ gives (numeral (valueFrom (joined bits b) bs) rest))
-      → pick t (none bs) (isNumber k bs) ≡ true
+      → pick t (noMore bs) (isNumber k bs) ≡ true
       → pick t (gives (numeral (joined bits b) (bs ++ rest))) (numberFrom rules k (joined bits b) (bs ++ rest))
       ≡ gives (numeral (valueFrom (joined bits b) bs) rest)
   by true go e = rw (none-nil bs e)

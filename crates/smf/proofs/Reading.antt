@@ -13,11 +13,11 @@ use borrow.Author.Tests.{lt-ltb, le-ltb, ltb-true, ltb-false, ne-eqb}
 use Rattle.smf.specs.Answer.{pick, Answer, gives, refuses, andThen, Rules}
 use Rattle.smf.specs.Number.{Numeral, numeral, readNumber}
 use Rattle.smf.specs.Payload.{Payload, payload, readPayload}
-use Rattle.smf.specs.Place.{placeOf, NumberAt, numberAt, Span, payloadAt}
+use Rattle.smf.specs.Place.{placeOf, NumberAt, numberAt, Span, payloadAt, bytesOf}
 use Rattle.smf.specs.Running.{isRunning}
 use Rattle.smf.specs.Wire.{RawEvent, rawEvent, Taken, taken, Reading, reads, refused, system, typed, dataLength, tableLength, readOne, readTwo, readChannel, withPayload, readMeta, readStatus, readBody, afterDelta, readRaw}
 use Rattle.smf.specs.Kind.{Message, Meta, Kind, midi, sysEx, escape, meta, messageOne, messageTwo, calledMeta, called}
-use Rattle.smf.specs.Event.{Event, event, mapMeta, mapKind, mapEvent, named, nameRaw, spanBefore, eventPlaced, ReadAt, readsAt, refusedAt, placed, readEvent, eventAt, bytesOf}
+use Rattle.smf.specs.Event.{Event, event, mapMeta, mapKind, mapEvent, named, nameRaw, spanBefore, eventPlaced, ReadAt, readsAt, refusedAt, placed, readEvent, eventAt}
 use Rattle.smf.specs.MetaAt.{MetaTaken, metaNamed, readMetaMessage, MetaAt, metaPlaced, metaAt}
 use Rattle.smf.proofs.Answer.{by-test, by-lt, said-of, said-refused}
 use Rattle.smf.proofs.Payload.{Loaded, PayloadLoaded, payload-loaded}

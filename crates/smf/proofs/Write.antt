@@ -11,6 +11,7 @@ use Rattle.smf.specs.Answer.{pick, Answer, gives, refuses, andThen}
 use Rattle.smf.specs.Width.{tryWidth}
 use Rattle.smf.specs.Number.{encodeNumber}
 use Rattle.smf.specs.Payload.{encodePayload}
+use Rattle.smf.specs.Place.{inside, bytesOf}
 use Rattle.smf.specs.Write.{Written, over, left, put, write, numberBytes, part, loadBytes, payloadBytes}
 
 module _ (bs s : List ℕ) (at : ℕ) where
@@ -50,16 +51,16 @@ number-bytes v h = rw (lt-ltb v (2 ^ 28) h)
 
 module _ (bytes : List ℕ) (start n : ℕ) where
   pub part-outside : length bytes < start + n → payloadBytes bytes start n ≡ refuses 19
-  unfolding payloadBytes part
+  unfolding payloadBytes part inside
   part-outside h = rw (lt-leb _ _ h)
 
   pub part-long : start + n ≤ length bytes → 2 ^ 28 ≤ n → payloadBytes bytes start n ≡ refuses 22
-  unfolding payloadBytes part loadBytes
+  unfolding payloadBytes part loadBytes inside bytesOf
   part-long h g = let l : length (take n (drop start bytes)) ≡ n = length-take-le n (drop start bytes) (omega (arith, length-drop start bytes)) in
       rw (le-leb _ _ h, l, le-ltb _ _ g)
 
   pub part-bytes : start + n ≤ length bytes → n < 2 ^ 28 → payloadBytes bytes start n ≡ gives (encodePayload (take n (drop start bytes)))
-  unfolding payloadBytes part loadBytes
+  unfolding payloadBytes part loadBytes inside bytesOf
   part-bytes h g = let l : length (take n (drop start bytes)) ≡ n = length-take-le n (drop start bytes) (omega (arith, length-drop start bytes)) in
       rw (le-leb _ _ h, lt-ltb (length (take n (drop start bytes))) (2 ^ 28) (omega arith))
 

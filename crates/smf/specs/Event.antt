@@ -1,14 +1,14 @@
 -- One event, named: read from bytes, and the bytes of a legal one. Document 01, "Bytes of an event", "Refusal numbers" and "Lists".
 use mathlib.Core.Path.{_≡_}
 use mathlib.Core.Bool.{Bool, true, false, _&&_, _||_, not}
-use mathlib.Core.List.{List, []}
+use mathlib.Core.List.{List}
 use Prim.Native.Nat.{ℕ, _+_, _-_, _^_}
 use lib.Dec.{ltb, leb, eqb}
 use lib.Signed.{mag}
-use lib.ListN.{length, take, drop}
+use lib.ListN.{length, drop}
 use Rattle.smf.specs.Answer.{pick, Answer, gives, refuses, unless, Rules}
 use Rattle.smf.specs.Running.{isRunning}
-use Rattle.smf.specs.Place.{Span, placeOf}
+use Rattle.smf.specs.Place.{Span, placeOf, inside, bytesOf}
 use Rattle.smf.specs.Smpte.{isTime}
 use Rattle.smf.specs.Write.{Written, left, put}
 use Rattle.smf.specs.Wire.{Raw, RawEvent, rawEvent, Taken, taken, Reading, reads, refused, readRaw, encodeRawEvent, runningAfter}
@@ -97,7 +97,7 @@ eventAt rules running s at = placed s at (readEvent rules running (drop at s))
 
 -- Writing
 
--- document 01, refusal 18: each restricted field within its width, an SMPTE time within its ranges; a record's bytes are below 256 anyway
+-- document 01, refusal 18: each restricted field within its width, an SMPTE time within its ranges; an `Unknown`'s type is a byte of the record, and is not tested
 unfoldable pub messageFits : Rules → Message → Bool
 messageFits rules (noteOff key vel) = ltb key 128 && ltb vel 128
 messageFits rules (noteOn key vel) = ltb key 128 && ltb vel 128
@@ -162,14 +162,6 @@ loadOr none (untold t p) = p
 abbrev pub kindLoad : {P : Type 0} → P → Kind P → P
 kindLoad none k = loadOr none (carries k)
 
--- document 01, refusal 19: a range not inside the payload bytes; start beyond the end counts even at length 0
-unfoldable pub inside : List ℕ → Span → Bool
-inside bytes span = leb (span .start + span .length) (length bytes)
-
--- the bytes of a range
-unfoldable pub bytesOf : List ℕ → Span → List ℕ
-bytesOf bytes span = take (span .length) (drop (span .start) bytes)
-
 -- document 01, refusal 23: types 00..09, 2F, 59, 7F always, and 20, 21, 51, 54, 58 at the lengths where they are named
 unfoldable pub isNamed : Rules → ℕ → ℕ → Bool
 isNamed rules t n =
@@ -191,14 +183,6 @@ misnamed rules size (untold t p) = isNamed rules t (size p)
 
 abbrev pub kindMisnamed : {P : Type 0} → Rules → (P → ℕ) → Kind P → Bool
 kindMisnamed rules size k = misnamed rules size (carries k)
-
--- what is legal of the event itself
-unfoldable pub isLegal : Rules → Event (List ℕ) → Bool
-isLegal rules e =
-    ltb (e .delta) (2 ^ 28)
-    && kindFits rules (e .kind)
-    && ltb (length (kindLoad [] (e .kind))) (2 ^ 28)
-    && not (kindMisnamed rules length (e .kind))
 
 abbrev pub noSpan : Span
 noSpan = record { start = 0; length = 0 }

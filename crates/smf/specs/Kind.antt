@@ -8,6 +8,7 @@ use lib.IntN.{ℤ}
 use lib.ListN.{length, getD}
 use Rattle.smf.specs.Answer.{pick, Answer, gives, refuses, andThen, Rules}
 use Rattle.smf.specs.Signed.{signedByte, byteOfSigned}
+use Rattle.smf.specs.Header.{word, twoBytes}
 use Rattle.smf.specs.Smpte.{Time, timeOf, timeBytes}
 use Rattle.smf.specs.Wire.{dataLength, Raw, one, two, system, typed}
 
@@ -42,7 +43,7 @@ pub data Kind (P : Type 0) : Type 0 where
   escape : P → Kind P
   meta : Meta P → Kind P
 
--- the byte at a place of a payload
+-- the byte at a place of a payload; modulo 256, so that no law needs to say that its elements are bytes
 abbrev pub byte : List ℕ → ℕ → ℕ
 byte p i = getD p i 0 % 256
 
@@ -64,7 +65,7 @@ isText t = pick (leb 0x01 t) (leb t 0x09) false
 
 -- document 01: 00, the first two bytes big-endian, or none under two bytes
 unfoldable pub trackNumberOf : List ℕ → Meta (List ℕ)
-trackNumberOf p = pick (leb 2 (length p)) (trackNumber (byte p 0 * 256 + byte p 1)) noTrackNumber
+trackNumberOf p = pick (leb 2 (length p)) (trackNumber (word (byte p 0) (byte p 1))) noTrackNumber
 
 -- a kind that is named from so many bytes up; shorter becomes `Unknown`
 abbrev pub from : ℕ → ℕ → List ℕ → Answer (Meta (List ℕ)) → Answer (Meta (List ℕ))
@@ -122,7 +123,7 @@ rawMessage channel (pitchBend raw) = two (0xE0 + channel) (raw % 128) (raw / 128
 
 -- SMF: the raw event of a meta message, with no more bytes than it needs; a minor key is written as 1
 unfoldable pub rawMeta : Meta (List ℕ) → Raw
-rawMeta (trackNumber n) = typed 0x00 (n / 256 ∷ n % 256 ∷ [])
+rawMeta (trackNumber n) = typed 0x00 (twoBytes n)
 rawMeta noTrackNumber = typed 0x00 []
 rawMeta (text t p) = typed t p
 rawMeta (midiChannel c) = typed 0x20 (c ∷ [])

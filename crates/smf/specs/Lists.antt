@@ -7,11 +7,11 @@ use lib.Dec.{leb}
 use lib.ListN.{length, take, drop, replicate}
 use Rattle.smf.specs.Answer.{pick, Answer, gives, refuses, Rules}
 use Rattle.smf.specs.Running.{isRunning}
-use Rattle.smf.specs.Place.{Span, placeOf}
+use Rattle.smf.specs.Place.{Span, placeOf, bytesOf}
 use Rattle.smf.specs.Write.{over}
 use Rattle.smf.specs.Wire.{Taken, Reading, reads, refused}
 use Rattle.smf.specs.Kind.{meta, endOfTrack}
-use Rattle.smf.specs.Event.{Event, event, mapEvent, bytesOf, readEvent, eventPlaced, ReadAt, readsAt, refusedAt, eventAt, legal, encodeEvent, eventAfter}
+use Rattle.smf.specs.Event.{Event, event, mapEvent, readEvent, eventPlaced, ReadAt, readsAt, refusedAt, eventAt, legal, encodeEvent, eventAfter}
 
 -- Reading
 

@@ -4,9 +4,9 @@ use Prim.Native.Nat.{ℕ, _+_}
 use lib.ListN.{length, drop}
 use Rattle.smf.specs.Answer.{Answer, gives, refuses, andThen, Rules}
 use Rattle.smf.specs.Payload.{Payload, readPayload}
-use Rattle.smf.specs.Place.{Span, placeOf}
+use Rattle.smf.specs.Place.{Span, placeOf, bytesOf}
 use Rattle.smf.specs.Kind.{Meta, calledMeta}
-use Rattle.smf.specs.Event.{mapMeta, spanBefore, bytesOf}
+use Rattle.smf.specs.Event.{mapMeta, spanBefore}
 
 -- a meta message that was read, and the bytes after it
 pub record MetaTaken : Type 0 where

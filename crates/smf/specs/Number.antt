@@ -11,15 +11,15 @@ abbrev pub joined : ℕ → ℕ → ℕ
 joined bits byte = bits * 128 + byte % 128
 
 -- whether no byte is left
-abbrev pub none : List ℕ → Bool
-none [] = true
-none (b ∷ bs) = false
+abbrev pub noMore : List ℕ → Bool
+noMore [] = true
+noMore (b ∷ bs) = false
 
 -- SMF: whether the bytes, all of them, are a number's: at most k, with bit 7 set on all but the last
 unfoldable pub isNumber : ℕ → List ℕ → Bool
 isNumber zero bytes = false
 isNumber (suc k) [] = false
-isNumber (suc k) (b ∷ bs) = pick (ltb b 128) (none bs) (isNumber k bs)
+isNumber (suc k) (b ∷ bs) = pick (ltb b 128) (noMore bs) (isNumber k bs)
 
 -- SMF: the number that the bytes stand for, behind the bits so far
 unfoldable pub valueFrom : ℕ → List ℕ → ℕ

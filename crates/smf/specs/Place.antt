@@ -1,8 +1,9 @@
 -- Places. Document 01, "What must change shape": a slice that shrinks is a place by value; a payload is its start and length in the bytes lent.
-use mathlib.Core.Path.{_≡_}
+use mathlib.Core.Bool.{Bool}
 use mathlib.Core.List.{List}
 use Prim.Native.Nat.{ℕ, _+_, _-_}
-use lib.ListN.{length, drop}
+use lib.Dec.{leb}
+use lib.ListN.{length, take, drop}
 use Rattle.smf.specs.Answer.{Answer, gives, andThen, Rules}
 use Rattle.smf.specs.Number.{Numeral, readNumber}
 use Rattle.smf.specs.Payload.{Payload, readPayload}
@@ -27,6 +28,14 @@ numberAt rules s at = andThen (readNumber rules (drop at s)) (λ (n : Numeral). 
 pub record Span : Type 0 where
   pub start : ℕ
   pub length : ℕ
+
+-- document 01, refusal 19: a range not inside the payload bytes; start beyond the end counts even at length 0
+unfoldable pub inside : List ℕ → Span → Bool
+inside bytes span = leb (span .start + span .length) (length bytes)
+
+-- the bytes of a range
+unfoldable pub bytesOf : List ℕ → Span → List ℕ
+bytesOf bytes span = take (span .length) (drop (span .start) bytes)
 
 -- it ends where what is left begins
 abbrev pub payloadPlaced : List ℕ → ℕ → Payload → Span

@@ -4,10 +4,11 @@ use mathlib.Core.List.{List, _++_}
 use Prim.Native.Nat.{ℕ, _+_, _^_}
 use lib.Dec.{leb, ltb}
 use lib.ListN.{length, take, drop}
-use Rattle.smf.specs.Answer.{pick, Answer, gives, refuses, andThen}
+use Rattle.smf.specs.Answer.{pick, Answer, gives, refuses, unless, andThen}
 use Rattle.smf.specs.Width.{tryWidth}
 use Rattle.smf.specs.Number.{encodeNumber}
 use Rattle.smf.specs.Payload.{encodePayload}
+use Rattle.smf.specs.Place.{Span, inside, bytesOf}
 
 -- what a write leaves in the buffer, and what it answers: the place after what was written
 pub record Written : Type 0 where
@@ -38,13 +39,13 @@ unfoldable pub numberBytes : ℕ → Answer (List ℕ)
 numberBytes v = andThen (tryWidth 28 v) (λ (n : ℕ). gives (encodeNumber n))
 
 -- the bytes of a range; document 01: 19 where it is not inside the bytes lent, and a start beyond the end counts even at length 0
-unfoldable pub part : List ℕ → ℕ → ℕ → Answer (List ℕ)
-part bytes start n = pick (leb (start + n) (length bytes)) (gives (take n (drop start bytes))) (refuses 19)
+unfoldable pub part : List ℕ → Span → Answer (List ℕ)
+part bytes span = unless (inside bytes span) 19 (gives (bytesOf bytes span))
 
 -- document 01: 22 where a payload is above 268,435,455 bytes
 unfoldable pub loadBytes : List ℕ → Answer (List ℕ)
-loadBytes bytes = pick (ltb (length bytes) (2 ^ 28)) (gives (encodePayload bytes)) (refuses 22)
+loadBytes bytes = unless (ltb (length bytes) (2 ^ 28)) 22 (gives (encodePayload bytes))
 
 -- a payload's bytes, of a range of the bytes lent
 unfoldable pub payloadBytes : List ℕ → ℕ → ℕ → Answer (List ℕ)
-payloadBytes bytes start n = andThen (part bytes start n) loadBytes
+payloadBytes bytes start n = andThen (part bytes (record { start = start; length = n })) loadBytes

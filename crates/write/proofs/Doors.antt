@@ -7,11 +7,11 @@ use native.Mathlib.Omega.{arith}
 use lib.Dec.{ltb}
 use borrow.Author.Tests.{lt-ltb, le-ltb, ltb-true}
 use Rattle.smf.specs.Answer.{pick, Answer, gives, refuses, unless, andThen, Rules}
-use Rattle.smf.specs.Place.{Span}
+use Rattle.smf.specs.Place.{Span, inside, bytesOf}
 use Rattle.smf.specs.Wire as wire
 use Rattle.smf.specs.Wire.{rawEvent}
 use Rattle.smf.specs.Kind.{rawOf}
-use Rattle.smf.specs.Event.{Event, kindFits, carries, kindLoad, inside, kindMisnamed, noSpan, spanLength, mapEvent, bytesOf, legal}
+use Rattle.smf.specs.Event.{Event, kindFits, carries, kindLoad, kindMisnamed, noSpan, spanLength, mapEvent, legal}
 use Rattle.smf.proofs.Answer.{by-test, by-answer, both}
 use Rattle.rows.specs.RowEvent.{eventOfRow, rowJudged}
 use Rattle.rows.proofs.IsRow.{is-none}

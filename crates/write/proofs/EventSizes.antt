@@ -7,11 +7,11 @@ use lib.ListN.{length}
 use Rattle.smf.specs.Answer.{Answer, gives, refuses, andThen}
 use Rattle.smf.specs.Event.{Event, encodeEvent, eventAfter}
 use Rattle.write.specs.Raw.{rawJudged}
-use Rattle.write.specs.Size.{Size, size, eventSize}
+use Rattle.write.specs.Size.{Size, size, sizeJudged}
 
 module _ (running : ℕ) where
-  pub size-refused : (j : Answer (Event (List ℕ))) (n : ℕ) → eventSize running j ≡ refuses n → j ≡ refuses n
-  unfolding eventSize rawJudged
+  pub size-refused : (j : Answer (Event (List ℕ))) (n : ℕ) → sizeJudged running j ≡ refuses n → j ≡ refuses n
+  unfolding sizeJudged rawJudged
   size-refused (gives e) n h = let z : _≡_ {A = ℕ} 0 1 = cc in absurd (omega arith)
   size-refused (refuses m) n h = let w : m ≡ n = cc in ap refuses w
 
@@ -20,7 +20,7 @@ module _ (running : ℕ) where
     pub legal : j ≡ gives event
     pub size : x ≡ size (length (encodeEvent running event)) (eventAfter event)
 
-  pub size-given : (j : Answer (Event (List ℕ))) (x : Size) → eventSize running j ≡ gives x → Sized j x
-  unfolding eventSize rawJudged encodeEvent
+  pub size-given : (j : Answer (Event (List ℕ))) (x : Size) → sizeJudged running j ≡ gives x → Sized j x
+  unfolding sizeJudged rawJudged encodeEvent
   size-given (gives e) x h = record { event = e; legal = refl; size = cc }
   size-given (refuses m) x h = let z : _≡_ {A = ℕ} 0 1 = cc in absurd (omega arith)

@@ -10,14 +10,14 @@ use lib.ListN.{length}
 use lib.Signed.{mag}
 use borrow.Author.Tests.{le-leb, lt-ltb, le-ltb}
 use Rattle.smf.specs.Answer.{pick, Answer, gives, refuses, unless, andThen, Rules}
-use Rattle.smf.specs.Place.{Span}
+use Rattle.smf.specs.Place.{Span, inside, bytesOf}
 use Rattle.smf.specs.Signed.{byteOfSigned}
 use Rattle.smf.specs.Smpte.{Time, isTime, timeBytes, encodeTime}
 use Rattle.smf.specs.Wire as wire
 use Rattle.smf.specs.Wire.{rawEvent}
 use Rattle.smf.specs.Kind.{Message, Meta, trackNumber, noTrackNumber, text, midiChannel, midiPort, endOfTrack, tempo, smpteOffset, timeSignature, keySignature, sequencerSpecific, unknown}
 use Rattle.smf.specs.Kind.{Kind, midi, sysEx, escape, meta, isText, rawMessage, rawMeta, rawOf}
-use Rattle.smf.specs.Event.{Event, event, messageFits, metaFits, kindFits, loadOr, metaCarries, carries, kindLoad, inside, misnamed, kindMisnamed, isNamed, noSpan, spanLength, mapMeta, mapKind, mapEvent, bytesOf, legal}
+use Rattle.smf.specs.Event.{Event, event, messageFits, metaFits, kindFits, loadOr, metaCarries, carries, kindLoad, misnamed, kindMisnamed, isNamed, noSpan, spanLength, mapMeta, mapKind, mapEvent, legal}
 use Rattle.smf.proofs.Answer.{by-test, by-lt, given}
 use Rattle.base.specs.declared.Refusal.{Refusal}
 use Rattle.header.specs.Smpte.{encodedSmpteTime}

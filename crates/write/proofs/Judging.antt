@@ -8,8 +8,9 @@ use lib.ListN.{length, take, drop, getD, length-map, List·getD-map}
 use lib.Seq.{drop-drop, getD-take, length-take-le}
 use Rattle.smf.specs.Answer.{Answer, gives, refuses, andThen, Rules}
 use Rattle.smf.specs.Place.{Span}
-use Rattle.smf.specs.Event.{Event, isLegal, legal}
+use Rattle.smf.specs.Event.{Event, legal}
 use Rattle.smf.specs.Lists.{recordsJudged}
+use Rattle.smf.proofs.Legal.{isLegal}
 use Rattle.smf.proofs.Answer.{by-answer}
 use Rattle.smf.proofs.ListLegality.{given-itself}
 use Rattle.track.specs.List.{recordOf}

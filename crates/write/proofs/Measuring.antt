@@ -7,14 +7,15 @@ use native.Mathlib.Omega.{arith}
 use lib.ListN.{length, take, getD, length-append}
 use lib.Seq.{take-length}
 use Rattle.smf.specs.Answer.{Answer, gives, Rules}
-use Rattle.smf.specs.Event.{Event, isLegal, encodeEvent}
+use Rattle.smf.specs.Event.{Event, encodeEvent}
 use Rattle.smf.specs.Lists.{check, encodeList, listAfter, wrote, unsized, sizeChecked}
+use Rattle.smf.proofs.Legal.{isLegal}
 use Rattle.smf.proofs.ListLegality.{check-given, legal-more, legal-stops}
 use Rattle.smf.proofs.ListWrites.{encode-behind, after-behind}
 use Rattle.base.specs.Refusal.{numberOf}
 use Rattle.base.specs.declared.Refusal.{Refusal}
 use Rattle.write.specs.Size as sizes
-use Rattle.write.specs.Size.{sizeOf, lengthSaid, eventSize}
+use Rattle.write.specs.Size.{sizeOf, lengthSaid, sizeJudged}
 use Rattle.write.specs.declared.answer.Size.{Size}
 use Rattle.write.specs.declared.answer.EventLength.{EventLength}
 use Rattle.write.specs.declared.answer.EventLength.the-variants as event
@@ -40,7 +41,7 @@ module _ (running : ℕ) (js : List (Answer (Event (List ℕ)))) where
       rw (h .size, h .after) (ap (sizeChecked running) (sym (ap (check 0) all ∙ check-given 0 (h .events))))
 
   -- the next event was measured, wherever the code takes it from
-  module _ {n status i : ℕ} (h : Seen n status i) (more : i < length js) (d j : Answer (Event (List ℕ))) (there : getD js i d ≡ j) (a : EventLength) (said : lengthSaid a ≡ eventSize status j) where
+  module _ {n status i : ℕ} (h : Seen n status i) (more : i < length js) (d j : Answer (Event (List ℕ))) (there : getD js i d ≡ j) (a : EventLength) (said : lengthSaid a ≡ sizeJudged status j) where
     pub seen-illegal : (m : Refusal) → a ≡ event.Refused m → unsized running (numberOf m) i ≡ sizeChecked running (check 0 js)
     unfolding sizeChecked
     seen-illegal m e =

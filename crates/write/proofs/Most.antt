@@ -9,7 +9,8 @@ use lib.ListN.{length}
 use Rattle.smf.specs.Answer.{Rules}
 use Rattle.smf.specs.Wire.{Raw, one, two, system, typed, rawEvent, encodeRaw}
 use Rattle.smf.specs.Kind.{rawOf}
-use Rattle.smf.specs.Event.{Event, isLegal, encodeEvent}
+use Rattle.smf.specs.Event.{Event, encodeEvent}
+use Rattle.smf.proofs.Legal.{isLegal}
 use Rattle.smf.proofs.Answer.{pick-both}
 use Rattle.smf.proofs.Number.{encode-most}
 use Rattle.smf.proofs.Payload.{encode-payload-length}

@@ -9,9 +9,8 @@ use lib.ListN.{length, take, drop, length-drop}
 use lib.Seq.{length-take-le}
 use borrow.Author.Tests.{leb-true, ltb-true, le-leb, lt-leb, lt-ltb, le-ltb}
 use Rattle.smf.specs.Answer.{pick, Answer, gives, refuses}
-use Rattle.smf.specs.Place.{Span}
+use Rattle.smf.specs.Place.{Span, inside, bytesOf}
 use Rattle.smf.specs.Payload.{encodePayload}
-use Rattle.smf.specs.Event.{inside, bytesOf}
 use Rattle.smf.proofs.Answer.{both}
 use Rattle.smf.proofs.Write.{payload-size}
 use Rattle.base.specs.Refusal.{numberOf}

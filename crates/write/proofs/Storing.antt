@@ -9,11 +9,10 @@ use lib.Dec.{eqb}
 use lib.ListN.{length, take, drop, set, length-append, take-append-drop, length-set}
 use lib.Seq.{set-split, take-set-le, drop-set-lt}
 use Rattle.smf.specs.Answer.{Answer, gives}
-use Rattle.smf.specs.Place.{Span}
+use Rattle.smf.specs.Place.{Span, bytesOf}
 use Rattle.smf.specs.Number.{encodeNumber}
 use Rattle.smf.specs.Payload.{encodePayload}
 use Rattle.smf.specs.Write.{Written, over, put, write, payloadBytes}
-use Rattle.smf.specs.Event.{bytesOf}
 use Rattle.smf.proofs.Answer.{by-test}
 use Rattle.smf.proofs.Number.{ahead-none}
 use Rattle.smf.proofs.Write.{over-over, length-over, put-fits, part-bytes, payload-size}

@@ -11,15 +11,15 @@ use Rattle.base.specs.Refusal.{numberOf}
 use Rattle.write.specs.declared.answer.ListLength.{ListLength}
 use Rattle.write.specs.declared.answer.ListLength.the-variants as long
 use Rattle.write.specs.declared.answer.WroteList.{WroteList}
-use Rattle.write.specs.declared.answer.WroteList.the-variants as wrote
+use Rattle.write.specs.declared.answer.WroteList.the-variants as told
 
 abbrev pub sizeSaid : ListLength → ListSize
 sizeSaid (long.Length s) = record { answer = wrote (s .length); running = s .running .status }
 sizeSaid (long.Refused n) = unsized (n .running .status) (numberOf (n .refusal)) (n .index)
 
 abbrev pub wroteList : WroteList → List ℕ → ListWritten
-wroteList (wrote.Length s) buffer = record { buffer = buffer; answer = wrote (s .length); running = s .running .status }
-wroteList (wrote.Refused n) buffer = listLeft (n .running .status) buffer (numberOf (n .refusal)) (n .index)
+wroteList (told.Length s) buffer = record { buffer = buffer; answer = wrote (s .length); running = s .running .status }
+wroteList (told.Refused n) buffer = listLeft (n .running .status) buffer (numberOf (n .refusal)) (n .index)
 
 -- What putting a list goes by
 

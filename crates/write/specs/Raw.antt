@@ -7,11 +7,11 @@ use lib.Dec.{ltb, leb, eqb}
 use lib.ListN.{length, take}
 use Rattle.smf.specs.Answer.{pick, Answer, gives, refuses, andThen, Rules}
 use Rattle.smf.specs.Number.{encodeNumber}
-use Rattle.smf.specs.Place.{Span}
+use Rattle.smf.specs.Place.{Span, inside, bytesOf}
 use Rattle.smf.specs.Wire as wire
 use Rattle.smf.specs.Wire.{rawEvent}
 use Rattle.smf.specs.Kind.{Kind, rawOf}
-use Rattle.smf.specs.Event.{Event, event, inside, bytesOf, legal}
+use Rattle.smf.specs.Event.{Event, event, legal}
 use Rattle.base.specs.Refusal.{numberOf}
 use Rattle.meta.specs.Meta.{spanOf}
 use Rattle.write.specs.declared.raw.Channel.{Channel}

@@ -33,9 +33,9 @@ abbrev pub rawSize : ℕ → RawEvent → Size
 rawSize running e = size (length (encodeRawEvent running e)) (runningAfter (e .raw))
 
 -- of an event as it was judged
-unfoldable pub eventSize : ℕ → Answer (Event (List ℕ)) → Answer Size
-eventSize running judged = andThen (rawJudged judged) (λ raw. gives (rawSize running raw))
+unfoldable pub sizeJudged : ℕ → Answer (Event (List ℕ)) → Answer Size
+sizeJudged running judged = andThen (rawJudged judged) (λ raw. gives (rawSize running raw))
 
 -- the same from a running status that is looked at first: 1 where it is invalid
 unfoldable pub sizeEvent : ℕ → Answer (Event (List ℕ)) → Answer Size
-sizeEvent running judged = pick (isRunning running) (eventSize running judged) (refuses 1)
+sizeEvent running judged = pick (isRunning running) (sizeJudged running judged) (refuses 1)

@@ -1,15 +1,16 @@
-// The bytes of an event that may be written, put where there is room for them. Nothing is tested here: the doors have
-// judged the event and the caller has measured it, and the `requires` below say so.
+// The bytes of an event that may be written, put where there is room for them. The doors have judged the event and the
+// caller has measured it: the `requires` below say so, and nothing is tested here. What the functions of `number` put,
+// which are public and may demand nothing, they test once more: a payload's range, its length and the room.
 ghost use mathlib.Core.Path.{_≡_};
 ghost use mathlib.Core.Bool.{true};
 ghost use mathlib.Core.List.{[], _∷_};
 ghost use Prim.Native.Nat.{_+_, _^_, _<_, _≤_};
 ghost use lib.ListN.{length};
+ghost use Rattle.smf.specs.Place.{bytesOf};
 ghost use Rattle.smf.specs.Number.{encodeNumber};
 ghost use Rattle.smf.specs.Payload.{encodePayload};
 ghost use Rattle.smf.specs.Write.{over};
 ghost use Rattle.smf.specs.Wire.{rawEvent, encodeRaw, encodeRawEvent};
-ghost use Rattle.smf.specs.Event.{bytesOf};
 ghost use Rattle.meta.specs.Meta.{spanOf};
 ghost use Rattle.write.specs.Raw.{channelRaw, statusBytes, dataBytes, ownBytes, loadLength, wireOf, isSound, Inside};
 ghost use Rattle.write.specs.Store.{Stored};

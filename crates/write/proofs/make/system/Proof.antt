@@ -1,7 +1,7 @@
 -- `system` meets its contract, by what `look` answers.
 use mathlib.Core.Path.{_≡_, refl, sym, ap, subst, _∙_}
 use borrow.Author.Needs.{needs}
-use Rattle.smf.specs.Event.{bytesOf}
+use Rattle.smf.specs.Place.{bytesOf}
 use Rattle.smf.specs.Wire as wire
 use Rattle.meta.specs.Meta.{spanOf}
 use Rattle.write.specs.Raw.{isSound, wireOf}

@@ -1,7 +1,7 @@
 -- `unknown` meets its contract: the payload first, and then the name.
 use mathlib.Core.Path.{_≡_, refl, sym, ap, subst, _∙_}
 use borrow.Author.Needs.{needs}
-use Rattle.smf.specs.Event.{bytesOf}
+use Rattle.smf.specs.Place.{bytesOf}
 use Rattle.smf.specs.Wire as wire
 use Rattle.meta.specs.Meta.{spanOf}
 use Rattle.write.specs.Raw.{isSound, wireOf}

@@ -5,7 +5,7 @@ use borrow.Author.Tests.{lt-ltb, le-ltb, eq-eqb, ne-eqb, le-leb, lt-leb, leb-tru
 use Rattle.smf.specs.Event.{legal}
 use Rattle.base.specs.Rules.{rulesOf}
 use Rattle.event.specs.Event.{eventOf}
-use Rattle.write.specs.Size.{eventSize, sizeEvent}
+use Rattle.write.specs.Size.{sizeJudged, sizeEvent}
 use Rattle.write.proofs.Doors.{legal-number, told}
 use Rattle.write.proofs.one.event_length.Statement.{statement}
 use Rattle.write.proofs.one.event_length.Tie as tie
@@ -18,7 +18,7 @@ measured-requires : tie.Need-measured-requires
 measured-requires c κs = let a = c .before .before .before .before .args in told (a .bytes .now) (legal (rulesOf (a .rules)) (a .bytes .now) (eventOf (a .event))) (legal-number (rulesOf (a .rules)) (a .bytes .now) (eventOf (a .event))) (c .event-raw .result) (c .event-raw .ensures)
 
 returns-2 : tie.Need-returns-2
-unfolding sizeEvent eventSize
+unfolding sizeEvent sizeJudged
 returns-2 c = let v = c .before .before .before .is-valid in rw (← v .ensures, not-false (v .result) (c .before .before .if1 .left), ← c .before .event-raw .ensures) (c .measured .ensures)
 
 pub event-length-spec : {M : Type 1} → statement M

@@ -1,7 +1,7 @@
 -- `put_fixed` meets its contract.
 use native.Mathlib.Omega.{arith}
 use borrow.Author.Needs.{needs}
-use Rattle.smf.specs.Event.{bytesOf}
+use Rattle.smf.specs.Place.{bytesOf}
 use Rattle.write.proofs.put.put_fixed.Statement.{statement}
 use Rattle.write.proofs.put.put_fixed.Tie as tie
 

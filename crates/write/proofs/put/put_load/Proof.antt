@@ -4,8 +4,8 @@ use Prim.Native.Nat.{_+_}
 use native.Mathlib.Omega.{arith}
 use borrow.Author.Needs.{needs}
 use lib.ListN.{length, set, length-set}
+use Rattle.smf.specs.Place.{bytesOf}
 use Rattle.smf.specs.Payload.{encodePayload}
-use Rattle.smf.specs.Event.{bytesOf}
 use Rattle.meta.specs.Meta.{spanOf}
 use Rattle.write.proofs.Storing.{over-cons, payload-written}
 use Rattle.write.proofs.put.put_load.Statement.{statement}

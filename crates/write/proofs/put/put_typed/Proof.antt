@@ -4,8 +4,8 @@ use mathlib.Core.List.{_∷_}
 use native.Mathlib.Omega.{arith}
 use borrow.Author.Needs.{needs}
 use lib.ListN.{length, length-set}
+use Rattle.smf.specs.Place.{bytesOf}
 use Rattle.smf.specs.Payload.{encodePayload}
-use Rattle.smf.specs.Event.{bytesOf}
 use Rattle.meta.specs.Meta.{spanOf}
 use Rattle.write.proofs.Storing.{over-cons}
 use Rattle.write.proofs.put.put_typed.Statement.{statement}

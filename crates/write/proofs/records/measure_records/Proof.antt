@@ -8,7 +8,7 @@ use Rattle.smf.specs.Event.{legal}
 use Rattle.base.specs.Rules.{rulesOf}
 use Rattle.track.specs.List.{capacity, recordOf}
 use Rattle.track.proofs.Held.{past, unmapped}
-use Rattle.write.specs.Size.{eventSize, lengthSaid}
+use Rattle.write.specs.Size.{sizeJudged, lengthSaid}
 use Rattle.write.proofs.Judging.{recordsCounted, records-counted, record-counted, record-lawful}
 use Rattle.write.proofs.Doors.{legal-number, told}
 use Rattle.write.proofs.Measuring.{Seen, seen-first, seen-last, seen-illegal, seen-most, seen-more}
@@ -35,8 +35,8 @@ inside c = let l = c .before .before .before .before .loop in let a = c .before 
 there : (c : tie.After-measured Inv-loop μ-loop) → let l = c .before .before .before .before .loop in let a = c .before .before .before .before .before .before .args in getD (recordsCounted (rulesOf (a .rules)) (a .bytes .now) (a .t1 .records) (a .t1 .count)) (l .index) (legal (rulesOf (a .rules)) (a .bytes .now) (recordOf past)) ≡ legal (rulesOf (a .rules)) (a .bytes .now) (recordOf (getD (a .t1 .records) (l .index) past))
 there c = let l = c .before .before .before .before .loop in let a = c .before .before .before .before .before .before .args in record-counted (rulesOf (a .rules)) (a .bytes .now) (a .t1 .records) (a .t1 .count) (l .index) (c .before .before .before .loop-test .taken)
 
-said : (c : tie.After-measured Inv-loop μ-loop) → let l = c .before .before .before .before .loop in let a = c .before .before .before .before .before .before .args in lengthSaid (c .measured .result) ≡ eventSize (l .status) (legal (rulesOf (a .rules)) (a .bytes .now) (recordOf (getD (a .t1 .records) (l .index) past)))
-unfolding eventSize
+said : (c : tie.After-measured Inv-loop μ-loop) → let l = c .before .before .before .before .loop in let a = c .before .before .before .before .before .before .args in lengthSaid (c .measured .result) ≡ sizeJudged (l .status) (legal (rulesOf (a .rules)) (a .bytes .now) (recordOf (getD (a .t1 .records) (l .index) past)))
+unfolding sizeJudged
 said c = rw (← c .before .record-raw .ensures) (c .measured .ensures)
 
 returns : tie.Need-returns Inv-loop μ-loop

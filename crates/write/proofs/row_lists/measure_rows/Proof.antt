@@ -11,7 +11,7 @@ use Rattle.base.specs.Rules.{rulesOf}
 use Rattle.track.specs.List.{capacity}
 use Rattle.rows.specs.RowEvent.{rowJudged}
 use Rattle.rows.specs.Rows.{width}
-use Rattle.write.specs.Size.{eventSize, lengthSaid}
+use Rattle.write.specs.Size.{sizeJudged, lengthSaid}
 use Rattle.write.proofs.Judging.{rowsCounted, rows-counted, row-counted, row-lawful}
 use Rattle.write.proofs.Doors.{row-number, told}
 use Rattle.write.proofs.Measuring.{Seen, seen-first, seen-last, seen-illegal, seen-most, seen-more}
@@ -38,8 +38,8 @@ inside c = let l = c .before .before .before .loop in let a = c .before .before 
 there : (c : tie.After-measured Inv-loop μ-loop) → let l = c .before .before .before .loop in let a = c .before .before .before .before .before .before .args in getD (rowsCounted (rulesOf (a .rules)) (a .bytes .now) (a .count) (a .rows .now)) (l .index) (refuses 0) ≡ rowJudged (rulesOf (a .rules)) (a .bytes .now) (take width (drop (l .index * width) (a .rows .now)))
 there c = let l = c .before .before .before .loop in let a = c .before .before .before .before .before .before .args in row-counted (rulesOf (a .rules)) (a .bytes .now) (a .count) (a .rows .now) (l .index) (refuses 0) (c .before .before .loop-test .taken)
 
-said : (c : tie.After-measured Inv-loop μ-loop) → let l = c .before .before .before .loop in let a = c .before .before .before .before .before .before .args in lengthSaid (c .measured .result) ≡ eventSize (l .status) (rowJudged (rulesOf (a .rules)) (a .bytes .now) (take width (drop (l .index * width) (a .rows .now))))
-unfolding eventSize
+said : (c : tie.After-measured Inv-loop μ-loop) → let l = c .before .before .before .loop in let a = c .before .before .before .before .before .before .args in lengthSaid (c .measured .result) ≡ sizeJudged (l .status) (rowJudged (rulesOf (a .rules)) (a .bytes .now) (take width (drop (l .index * width) (a .rows .now))))
+unfolding sizeJudged
 said c = rw (← c .before .judge-at .ensures) (c .measured .ensures)
 
 returns : tie.Need-returns Inv-loop μ-loop
