@@ -12,10 +12,15 @@ use Rattle.meta.proofs.key_signature.Statement.{statement}
 use Rattle.meta.proofs.key_signature.Tie as tie
 
 returns : tie.Need-returns
-returns c = called-short-key (rulesOf (c .before .before .before .args .rules)) (now (c .before .before .before .args .raw)) (λ i. c .before .before .shared-slice-known .given i .fits) (spanOf (c .before .before .before .args .load)) (c .before .before .before .pre) (c .if1 .taken)
+returns c =
+    let a = c .before .before .before .args in
+    called-short-key (rulesOf (a .rules)) (now (a .raw)) (λ i. c .before .before .shared-slice-known .given i .fits) (spanOf (a .load)) (c .before .before .before .pre) (c .if1 .taken)
 
 returns-2 : tie.Need-returns-2
-returns-2 c = c .message .ensures ∙ rw (toZ-ofZ {w = w8} (record { sfits = c .before .before .from-byte .ok }), c .before .before .from-byte .ensures) (called-key (rulesOf (c .before .before .before .before .before .before .before .args .rules)) (now (c .before .before .before .before .before .before .before .args .raw)) (λ i. c .before .before .before .before .before .before .shared-slice-known .given i .fits) (spanOf (c .before .before .before .before .before .before .before .args .load)) (c .before .before .before .before .before .before .before .pre) (c .before .before .before .before .if1 .left))
+returns-2 c =
+    let a = c .before .before .before .before .before .before .before .args in
+    c .message .ensures
+    ∙ rw (toZ-ofZ {w = w8} (record { sfits = c .before .before .from-byte .ok }), c .before .before .from-byte .ensures) (called-key (rulesOf (a .rules)) (now (a .raw)) (λ i. c .before .before .before .before .before .before .shared-slice-known .given i .fits) (spanOf (a .load)) (c .before .before .before .before .before .before .before .pre) (c .before .before .before .before .if1 .left))
 
 pub key-signature-spec : {M : Type 1} → statement M
 key-signature-spec =

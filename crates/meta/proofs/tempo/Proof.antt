@@ -11,7 +11,10 @@ use Rattle.meta.proofs.tempo.Statement.{statement}
 use Rattle.meta.proofs.tempo.Tie as tie
 
 returns : tie.Need-returns
-returns c = c .message .ensures ∙ short (rulesOf (c .before .before .before .before .args .rules)) (now (c .before .before .before .before .args .raw)) (λ i. c .before .before .before .shared-slice-known .given i .fits) (spanOf (c .before .before .before .before .args .load)) (c .before .before .before .before .pre) 0x51 3 _ (form-tempo _ _) (c .before .if1 .taken)
+returns c =
+    let a = c .before .before .before .before .args in
+    c .message .ensures
+    ∙ short (rulesOf (a .rules)) (now (a .raw)) (λ i. c .before .before .before .shared-slice-known .given i .fits) (spanOf (a .load)) (c .before .before .before .before .pre) 0x51 3 _ (form-tempo _ _) (c .before .if1 .taken)
 
 cast-high : tie.Need-cast-high
 cast-high c = omega (arith, c .shared-slice-known2 .given (c .before .before .before .before .args .load .start))
@@ -23,7 +26,11 @@ add-t18 : tie.Need-add-t18
 add-t18 c = record { fits = omega (arith, c .before .before .before .shared-slice-known2 .given (c .before .before .before .before .before .before .before .args .load .start), c .word .ok) }
 
 returns-2 : tie.Need-returns-2
-returns-2 c = c .message2 .ensures ∙ rw (c .before .word .ensures) (called-tempo (rulesOf (c .before .before .before .before .before .before .before .before .args .rules)) (now (c .before .before .before .before .before .before .before .before .args .raw)) (λ i. c .before .before .before .before .before .before .before .shared-slice-known .given i .fits) (spanOf (c .before .before .before .before .before .before .before .before .args .load)) (c .before .before .before .before .before .before .before .before .pre) (c .before .before .before .before .before .if1 .left))
+returns-2 c =
+    let p = c .before .before .before .before .before in
+    let a = p .before .before .before .args in
+    c .message2 .ensures
+    ∙ rw (c .before .word .ensures) (called-tempo (rulesOf (a .rules)) (now (a .raw)) (λ i. p .before .before .shared-slice-known .given i .fits) (spanOf (a .load)) (p .before .before .before .pre) (p .if1 .left))
 
 pub tempo-spec : {M : Type 1} → statement M
 tempo-spec =

@@ -10,10 +10,17 @@ use Rattle.meta.proofs.time_signature.Statement.{statement}
 use Rattle.meta.proofs.time_signature.Tie as tie
 
 returns : tie.Need-returns
-returns c = c .message .ensures ∙ short (rulesOf (c .before .before .before .before .args .rules)) (now (c .before .before .before .before .args .raw)) (λ i. c .before .before .before .shared-slice-known .given i .fits) (spanOf (c .before .before .before .before .args .load)) (c .before .before .before .before .pre) 0x58 4 _ (form-signature _ _) (c .before .if1 .taken)
+returns c =
+    let a = c .before .before .before .before .args in
+    c .message .ensures
+    ∙ short (rulesOf (a .rules)) (now (a .raw)) (λ i. c .before .before .before .shared-slice-known .given i .fits) (spanOf (a .load)) (c .before .before .before .before .pre) 0x58 4 _ (form-signature _ _) (c .before .if1 .taken)
 
 returns-2 : tie.Need-returns-2
-returns-2 c = c .message2 .ensures ∙ called-signature (rulesOf (c .before .before .before .before .before .before .before .before .args .rules)) (now (c .before .before .before .before .before .before .before .before .args .raw)) (λ i. c .before .before .before .before .before .before .before .shared-slice-known .given i .fits) (spanOf (c .before .before .before .before .before .before .before .before .args .load)) (c .before .before .before .before .before .before .before .before .pre) (c .before .before .before .before .before .if1 .left)
+returns-2 c =
+    let p = c .before .before .before .before .before in
+    let a = p .before .before .before .args in
+    c .message2 .ensures
+    ∙ called-signature (rulesOf (a .rules)) (now (a .raw)) (λ i. p .before .before .shared-slice-known .given i .fits) (spanOf (a .load)) (p .before .before .before .pre) (p .if1 .left)
 
 pub time-signature-spec : {M : Type 1} → statement M
 time-signature-spec =

@@ -10,10 +10,14 @@ use Rattle.meta.proofs.track_number.Statement.{statement}
 use Rattle.meta.proofs.track_number.Tie as tie
 
 returns : tie.Need-returns
-returns c = rw (c .word .ensures) (called-number (record { strict = true }) (now (c .before .before .before .before .before .before .args .raw)) (λ i. c .before .before .before .before .before .shared-slice-known .given i .fits) (spanOf (c .before .before .before .before .before .before .args .load)) (c .before .before .before .before .before .before .pre) (c .before .before .before .if1 .taken))
+returns c =
+    let a = c .before .before .before .before .before .before .args in
+    rw (c .word .ensures) (called-number (record { strict = true }) (now (a .raw)) (λ i. c .before .before .before .before .before .shared-slice-known .given i .fits) (spanOf (a .load)) (c .before .before .before .before .before .before .pre) (c .before .before .before .if1 .taken))
 
 returns-2 : tie.Need-returns-2
-returns-2 c = called-no-number (record { strict = true }) (now (c .before .before .before .args .raw)) (λ i. c .before .before .shared-slice-known .given i .fits) (spanOf (c .before .before .before .args .load)) (c .before .before .before .pre) (c .if1 .left)
+returns-2 c =
+    let a = c .before .before .before .args in
+    called-no-number (record { strict = true }) (now (a .raw)) (λ i. c .before .before .shared-slice-known .given i .fits) (spanOf (a .load)) (c .before .before .before .pre) (c .if1 .left)
 
 pub track-number-spec : {M : Type 1} → statement M
 track-number-spec =

@@ -10,16 +10,29 @@ use Rattle.event.proofs.TrackEvent.read.Statement.{statement}
 use Rattle.event.proofs.TrackEvent.read.Tie as tie
 
 kind-requires : tie.Need-kind-requires
-kind-requires c κs = (event-body (rulesOf (c .before .before .before .before .before .before .before .before .args .rules)) (c .before .before .before .before .before .before .before .before .args .running .status) (now (c .before .before .before .before .before .before .before .before .args .raw)) (c .before .before .before .before .before .before .before .before .args .at) (sym (c .before .before .before .before .before .before .is-valid .ensures) ∙ c .before .before .before .before .before .if1 .taken) (sym (c .before .before .before .before .read-u7 .ensures) ∙ ap numberRead (c .before .before .number .given .1)) .1, sym (c .before .before .before .before .before .before .is-valid .ensures) ∙ c .before .before .before .before .before .if1 .taken)
+kind-requires c κs =
+    let p = c .before .before .before .before in
+    let a = p .before .before .before .before .args in
+    (event-body (rulesOf (a .rules)) (a .running .status) (now (a .raw)) (a .at) (sym (p .before .before .is-valid .ensures) ∙ p .before .if1 .taken) (sym (p .read-u7 .ensures) ∙ ap numberRead (c .before .before .number .given .1)) .1, sym (p .before .before .is-valid .ensures) ∙ p .before .if1 .taken)
 
 returns : tie.Need-returns
-returns c = c .refused .ensures ∙ event-refused (rulesOf (c .before .before .before .before .before .before .before .before .args .rules)) (c .before .before .before .before .before .before .before .before .args .running .status) (now (c .before .before .before .before .before .before .before .before .args .raw)) (c .before .before .before .before .before .before .before .before .args .at) (sym (c .before .before .before .before .before .before .is-valid .ensures) ∙ c .before .before .before .before .before .if1 .taken) (sym (c .before .before .before .before .read-u7 .ensures) ∙ ap numberRead (c .before .before .refusal .given .1))
+returns c =
+    let a = c .before .before .before .before .before .before .before .before .args in
+    c .refused .ensures
+    ∙ event-refused (rulesOf (a .rules)) (a .running .status) (now (a .raw)) (a .at) (sym (c .before .before .before .before .before .before .is-valid .ensures) ∙ c .before .before .before .before .before .if1 .taken) (sym (c .before .before .before .before .read-u7 .ensures) ∙ ap numberRead (c .before .before .refusal .given .1))
 
 returns-2 : tie.Need-returns-2
-returns-2 c = c .kind .ensures ∙ event-body (rulesOf (c .before .before .before .before .before .before .before .before .before .args .rules)) (c .before .before .before .before .before .before .before .before .before .args .running .status) (now (c .before .before .before .before .before .before .before .before .before .args .raw)) (c .before .before .before .before .before .before .before .before .before .args .at) (sym (c .before .before .before .before .before .before .before .is-valid .ensures) ∙ c .before .before .before .before .before .before .if1 .taken) (sym (c .before .before .before .before .before .read-u7 .ensures) ∙ ap numberRead (c .before .before .before .number .given .1)) .0
+returns-2 c =
+    let p = c .before .before .before .before .before in
+    let a = p .before .before .before .before .args in
+    c .kind .ensures
+    ∙ event-body (rulesOf (a .rules)) (a .running .status) (now (a .raw)) (a .at) (sym (p .before .before .is-valid .ensures) ∙ p .before .if1 .taken) (sym (p .read-u7 .ensures) ∙ ap numberRead (c .before .before .before .number .given .1)) .0
 
 returns-3 : tie.Need-returns-3
-returns-3 c = c .refused2 .ensures ∙ event-invalid (rulesOf (c .before .before .before .before .args .rules)) (c .before .before .before .before .args .running .status) (now (c .before .before .before .before .args .raw)) (c .before .before .before .before .args .at) (sym (c .before .before .is-valid .ensures) ∙ c .before .if1 .left)
+returns-3 c =
+    let a = c .before .before .before .before .args in
+    c .refused2 .ensures
+    ∙ event-invalid (rulesOf (a .rules)) (a .running .status) (now (a .raw)) (a .at) (sym (c .before .before .is-valid .ensures) ∙ c .before .if1 .left)
 
 pub read-spec : {M : Type 1} → statement M
 read-spec =

@@ -33,7 +33,9 @@ returns-6 c = rw (c .match .keys6)
 
 returns-7 : tie.Need-returns-7
 unfolding dataLength messageWith messageOne messageTwo
-returns-7 c = rw (ne-eqb _ _ (c .before .before .match .rest .0 .1), ne-eqb _ _ (c .before .before .match .rest .1), ne-eqb _ _ (c .before .before .match .rest .0 .0 .0 .0 .0 .1), ne-eqb _ _ (c .before .before .match .rest .0 .0 .0 .0 .1), ne-eqb _ _ (c .before .before .match .rest .0 .0 .0 .1), ne-eqb _ _ (c .before .before .match .rest .0 .0 .1))
+returns-7 c =
+    let rest2 = c .before .before .match .rest in
+    rw (ne-eqb _ _ (rest2 .0 .1), ne-eqb _ _ (rest2 .1), ne-eqb _ _ (rest2 .0 .0 .0 .0 .0 .1), ne-eqb _ _ (rest2 .0 .0 .0 .0 .1), ne-eqb _ _ (rest2 .0 .0 .0 .1), ne-eqb _ _ (rest2 .0 .0 .1))
 
 pub read-spec : {M : Type 1} → statement M
 read-spec =

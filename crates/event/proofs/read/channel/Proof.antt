@@ -17,19 +17,32 @@ len c = c .msg-length .ensures ∙ channel-length (c .before .before .args .stat
 
 -- past a first data byte that is not the only one there is a second
 more : (c : tie.Else3) → c .before .before .before .before .before .before .before .args .at + 1 < length (now (c .before .before .before .before .before .before .before .args .raw))
-more c = data-more (rulesOf (c .before .before .before .before .before .before .before .args .rules)) (now (c .before .before .before .before .before .before .before .args .raw)) (c .before .before .before .before .before .before .before .args .begun .start) (c .before .before .before .before .before .before .before .args .at) (c .before .before .before .before .before .before .before .args .status) (c .before .before .before .before .before .before .before .args .begun .delta .0) (c .before .before .before .before .before .before .before .pre .0) (omega (arith, len (c .before .before .before .before .before), c .before .before .before .before .bytes-from .ensures, c .before .before .before .if1 .left)) (λ e. c .if3 .left (len (c .before .before .before .before .before) ∙ e)) (c .before .if2 .left)
+more c =
+    let p = c .before .before .before .before in
+    let a = p .before .before .before .args in
+    data-more (rulesOf (a .rules)) (now (a .raw)) (a .begun .start) (a .at) (a .status) (a .begun .delta .0) (p .before .before .before .pre .0) (omega (arith, len (p .before), p .bytes-from .ensures, c .before .before .before .if1 .left)) (λ e. c .if3 .left (len (p .before) ∙ e)) (c .before .if2 .left)
 
 returns : tie.Need-returns
-returns c = c .refused .ensures ∙ data-short (rulesOf (c .before .before .before .before .before .args .rules)) (now (c .before .before .before .before .before .args .raw)) (c .before .before .before .before .before .args .begun .start) (c .before .before .before .before .before .args .at) (c .before .before .before .before .before .args .status) (c .before .before .before .before .before .args .begun .delta .0) (c .before .before .before .before .before .pre .0) (omega (arith, len (c .before .before .before), c .before .before .bytes-from .ensures, c .before .if1 .taken))
+returns c =
+    let a = c .before .before .before .before .before .args in
+    c .refused .ensures
+    ∙ data-short (rulesOf (a .rules)) (now (a .raw)) (a .begun .start) (a .at) (a .status) (a .begun .delta .0) (c .before .before .before .before .before .pre .0) (omega (arith, len (c .before .before .before), c .before .before .bytes-from .ensures, c .before .if1 .taken))
 
 shared-slice-read-first : tie.Need-shared-slice-read-first
 shared-slice-read-first c = omega (arith, len (c .before .before .before), c .before .before .bytes-from .ensures, data-some (c .before .before .before .before .before .args .status))
 
 returns-2 : tie.Need-returns-2
-returns-2 c = c .refused2 .ensures ∙ data-top (rulesOf (c .before .before .before .before .before .before .before .args .rules)) (now (c .before .before .before .before .before .before .before .args .raw)) (c .before .before .before .before .before .before .before .args .begun .start) (c .before .before .before .before .before .before .before .args .at) (c .before .before .before .before .before .before .before .args .status) (c .before .before .before .before .before .before .before .args .begun .delta .0) (c .before .before .before .before .before .before .before .pre .0) (omega (arith, len (c .before .before .before .before .before), c .before .before .before .before .bytes-from .ensures, c .before .before .before .if1 .left)) (c .before .if2 .taken)
+returns-2 c =
+    let a = c .before .before .before .before .before .before .before .args in
+    c .refused2 .ensures
+    ∙ data-top (rulesOf (a .rules)) (now (a .raw)) (a .begun .start) (a .at) (a .status) (a .begun .delta .0) (c .before .before .before .before .before .before .before .pre .0) (omega (arith, len (c .before .before .before .before .before), c .before .before .before .before .bytes-from .ensures, c .before .before .before .if1 .left)) (c .before .if2 .taken)
 
 returns-3 : tie.Need-returns-3
-returns-3 c = c .event .ensures ∙ rw (c .before .read .ensures) (data-one (rulesOf (c .before .before .before .before .before .before .before .before .before .args .rules)) (now (c .before .before .before .before .before .before .before .before .before .args .raw)) (c .before .before .before .before .before .before .before .before .before .args .begun .start) (c .before .before .before .before .before .before .before .before .before .args .at) (c .before .before .before .before .before .before .before .before .before .args .status) (c .before .before .before .before .before .before .before .before .before .args .begun .delta .0) (c .before .before .before .before .before .before .before .before .before .pre .0) 0 (omega (arith, len (c .before .before .before .before .before .before .before), c .before .before .before .before .before .before .bytes-from .ensures, c .before .before .before .before .before .if1 .left)) (sym (len (c .before .before .before .before .before .before .before)) ∙ c .before .before .if3 .taken) (c .before .before .before .if2 .left))
+returns-3 c =
+    let p = c .before .before .before .before .before in
+    let a = p .before .before .before .before .args in
+    c .event .ensures
+    ∙ rw (c .before .read .ensures) (data-one (rulesOf (a .rules)) (now (a .raw)) (a .begun .start) (a .at) (a .status) (a .begun .delta .0) (p .before .before .before .before .pre .0) 0 (omega (arith, len (p .before .before), p .before .bytes-from .ensures, p .if1 .left)) (sym (len (p .before .before)) ∙ c .before .before .if3 .taken) (c .before .before .before .if2 .left))
 
 add-second : tie.Need-add-second
 add-second c = omega (arith, more c)
@@ -38,13 +51,21 @@ shared-slice-read-second : tie.Need-shared-slice-read-second
 shared-slice-read-second c = omega (arith, more (c .before))
 
 returns-4 : tie.Need-returns-4
-returns-4 c = c .refused3 .ensures ∙ data-second-top (rulesOf (c .before .before .before .before .before .before .before .before .before .before .args .rules)) (now (c .before .before .before .before .before .before .before .before .before .before .args .raw)) (c .before .before .before .before .before .before .before .before .before .before .args .begun .start) (c .before .before .before .before .before .before .before .before .before .before .args .at) (c .before .before .before .before .before .before .before .before .before .before .args .status) (c .before .before .before .before .before .before .before .before .before .before .args .begun .delta .0) (c .before .before .before .before .before .before .before .before .before .before .pre .0) (omega (arith, len (c .before .before .before .before .before .before .before .before), c .before .before .before .before .before .before .before .bytes-from .ensures, c .before .before .before .before .before .before .if1 .left)) (λ e. c .before .before .before .if3 .left (len (c .before .before .before .before .before .before .before .before) ∙ e)) (c .before .before .before .before .if2 .left) (c .before .if4 .taken)
+returns-4 c =
+    let p = c .before .before .before .before .before .before in
+    let a = p .before .before .before .before .args in
+    c .refused3 .ensures
+    ∙ data-second-top (rulesOf (a .rules)) (now (a .raw)) (a .begun .start) (a .at) (a .status) (a .begun .delta .0) (p .before .before .before .before .pre .0) (omega (arith, len (p .before .before), p .before .bytes-from .ensures, p .if1 .left)) (λ e. c .before .before .before .if3 .left (len (p .before .before) ∙ e)) (c .before .before .before .before .if2 .left) (c .before .if4 .taken)
 
 add-event-2 : tie.Need-add-event-2
 add-event-2 c = omega (arith, more (c .before .before .before))
 
 returns-5 : tie.Need-returns-5
-returns-5 c = c .event2 .ensures ∙ rw (c .before .read2 .ensures) (data-two (rulesOf (c .before .before .before .before .before .before .before .before .before .before .before .args .rules)) (now (c .before .before .before .before .before .before .before .before .before .before .before .args .raw)) (c .before .before .before .before .before .before .before .before .before .before .before .args .begun .start) (c .before .before .before .before .before .before .before .before .before .before .before .args .at) (c .before .before .before .before .before .before .before .before .before .before .before .args .status) (c .before .before .before .before .before .before .before .before .before .before .before .args .begun .delta .0) (c .before .before .before .before .before .before .before .before .before .before .before .pre .0) (omega (arith, len (c .before .before .before .before .before .before .before .before .before), c .before .before .before .before .before .before .before .before .bytes-from .ensures, c .before .before .before .before .before .before .before .if1 .left)) (λ e. c .before .before .before .before .if3 .left (len (c .before .before .before .before .before .before .before .before .before) ∙ e)) (c .before .before .before .before .before .if2 .left) (c .before .before .if4 .left))
+returns-5 c =
+    let p = c .before .before .before .before .before .before .before in
+    let a = p .before .before .before .before .args in
+    c .event2 .ensures
+    ∙ rw (c .before .read2 .ensures) (data-two (rulesOf (a .rules)) (now (a .raw)) (a .begun .start) (a .at) (a .status) (a .begun .delta .0) (p .before .before .before .before .pre .0) (omega (arith, len (p .before .before), p .before .bytes-from .ensures, p .if1 .left)) (λ e. c .before .before .before .before .if3 .left (len (p .before .before) ∙ e)) (c .before .before .before .before .before .if2 .left) (c .before .before .if4 .left))
 
 pub channel-spec : {M : Type 1} → statement M
 channel-spec =

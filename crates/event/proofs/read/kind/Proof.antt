@@ -15,13 +15,20 @@ use Rattle.event.proofs.read.kind.Tie as tie
 
 returns : tie.Need-returns
 unfolding placed nameRaw
-returns c = c .refused .ensures ∙ rw (body-missing (rulesOf (c .before .before .before .args .rules)) (c .before .before .before .args .running .status) (c .before .before .before .args .begun .delta .0) (now (c .before .before .before .args .raw)) (c .before .before .before .args .at) (c .before .if1 .taken))
+returns c =
+    let a = c .before .before .before .args in
+    c .refused .ensures ∙ rw (body-missing (rulesOf (a .rules)) (a .running .status) (a .begun .delta .0) (now (a .raw)) (a .at) (c .before .if1 .taken))
 
 status-kind-requires : tie.Need-status-kind-requires
-status-kind-requires c κs = (site-next (now (c .before .before .before .before .args .raw)) (c .before .before .before .before .args .begun .start) (c .before .before .before .before .args .at) (c .before .before .if1 .left) (c .before .before .before .before .pre .0), omega arith, c .if2 .taken)
+status-kind-requires c κs =
+    let a = c .before .before .before .before .args in
+    (site-next (now (a .raw)) (a .begun .start) (a .at) (c .before .before .if1 .left) (c .before .before .before .before .pre .0), omega arith, c .if2 .taken)
 
 returns-2 : tie.Need-returns-2
-returns-2 c = c .status-kind .ensures ∙ rw (body-status (rulesOf (c .before .before .before .before .before .args .rules)) (c .before .before .before .before .before .args .running .status) (c .before .before .before .before .before .args .begun .delta .0) (now (c .before .before .before .before .before .args .raw)) (c .before .before .before .before .before .args .at) (c .before .before .before .if1 .left) (omega arith))
+returns-2 c =
+    let a = c .before .before .before .before .before .args in
+    c .status-kind .ensures
+    ∙ rw (body-status (rulesOf (a .rules)) (a .running .status) (a .begun .delta .0) (now (a .raw)) (a .at) (c .before .before .before .if1 .left) (omega arith))
 
 returns-3 : tie.Need-returns-3
 unfolding placed nameRaw

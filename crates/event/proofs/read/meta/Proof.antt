@@ -11,13 +11,21 @@ use Rattle.event.proofs.read.meta.Statement.{statement}
 use Rattle.event.proofs.read.meta.Tie as tie
 
 event-requires : tie.Need-event-requires
-event-requires c κs = said-of (Answers (rulesOf (c .before .before .before .before .before .args .rules)) (now (c .before .before .before .before .before .args .raw)) (c .before .before .before .before .before .args .begun .start) (c .before .before .before .before .before .args .at) (c .before .before .before .before .before .args .begun .delta .0) (c .before .before .before .before .before .pre)) (meta-answers (rulesOf (c .before .before .before .before .before .args .rules)) (now (c .before .before .before .before .before .args .raw)) (c .before .before .before .before .before .args .begun .start) (c .before .before .before .before .before .args .at) (c .before .before .before .before .before .args .begun .delta .0) (c .before .before .before .before .before .pre)) (sym (c .before .before .before .read .ensures) ∙ ap metaRead (c .before .m .given .1)) .1
+event-requires c κs =
+    let a = c .before .before .before .before .before .args in
+    said-of (Answers (rulesOf (a .rules)) (now (a .raw)) (a .begun .start) (a .at) (a .begun .delta .0) (c .before .before .before .before .before .pre)) (meta-answers (rulesOf (a .rules)) (now (a .raw)) (a .begun .start) (a .at) (a .begun .delta .0) (c .before .before .before .before .before .pre)) (sym (c .before .before .before .read .ensures) ∙ ap metaRead (c .before .m .given .1)) .1
 
 returns : tie.Need-returns
-returns c = c .refused .ensures ∙ said-refused (Answers (rulesOf (c .before .before .before .before .before .before .args .rules)) (now (c .before .before .before .before .before .before .args .raw)) (c .before .before .before .before .before .before .args .begun .start) (c .before .before .before .before .before .before .args .at) (c .before .before .before .before .before .before .args .begun .delta .0) (c .before .before .before .before .before .before .pre)) (meta-answers (rulesOf (c .before .before .before .before .before .before .args .rules)) (now (c .before .before .before .before .before .before .args .raw)) (c .before .before .before .before .before .before .args .begun .start) (c .before .before .before .before .before .before .args .at) (c .before .before .before .before .before .before .args .begun .delta .0) (c .before .before .before .before .before .before .pre)) (sym (c .before .before .before .before .read .ensures) ∙ ap metaRead (c .before .before .refusal .given .1))
+returns c =
+    let a = c .before .before .before .before .before .before .args in
+    c .refused .ensures
+    ∙ said-refused (Answers (rulesOf (a .rules)) (now (a .raw)) (a .begun .start) (a .at) (a .begun .delta .0) (c .before .before .before .before .before .before .pre)) (meta-answers (rulesOf (a .rules)) (now (a .raw)) (a .begun .start) (a .at) (a .begun .delta .0) (c .before .before .before .before .before .before .pre)) (sym (c .before .before .before .before .read .ensures) ∙ ap metaRead (c .before .before .refusal .given .1))
 
 returns-2 : tie.Need-returns-2
-returns-2 c = c .event .ensures ∙ said-of (Answers (rulesOf (c .before .before .before .before .before .before .args .rules)) (now (c .before .before .before .before .before .before .args .raw)) (c .before .before .before .before .before .before .args .begun .start) (c .before .before .before .before .before .before .args .at) (c .before .before .before .before .before .before .args .begun .delta .0) (c .before .before .before .before .before .before .pre)) (meta-answers (rulesOf (c .before .before .before .before .before .before .args .rules)) (now (c .before .before .before .before .before .before .args .raw)) (c .before .before .before .before .before .before .args .begun .start) (c .before .before .before .before .before .before .args .at) (c .before .before .before .before .before .before .args .begun .delta .0) (c .before .before .before .before .before .before .pre)) (sym (c .before .before .before .before .read .ensures) ∙ ap metaRead (c .before .before .m .given .1)) .0
+returns-2 c =
+    let a = c .before .before .before .before .before .before .args in
+    c .event .ensures
+    ∙ said-of (Answers (rulesOf (a .rules)) (now (a .raw)) (a .begun .start) (a .at) (a .begun .delta .0) (c .before .before .before .before .before .before .pre)) (meta-answers (rulesOf (a .rules)) (now (a .raw)) (a .begun .start) (a .at) (a .begun .delta .0) (c .before .before .before .before .before .before .pre)) (sym (c .before .before .before .before .read .ensures) ∙ ap metaRead (c .before .before .m .given .1)) .0
 
 pub meta-spec : {M : Type 1} → statement M
 meta-spec =

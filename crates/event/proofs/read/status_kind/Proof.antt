@@ -13,17 +13,29 @@ use Rattle.event.proofs.read.status_kind.Tie as tie
 
 returns : tie.Need-returns
 unfolding placed nameRaw
-returns c = c .refused .ensures ∙ rw (status-common (rulesOf (c .before .before .before .before .args .rules)) (c .before .before .before .before .args .running .status) (c .before .before .before .before .args .begun .delta .0) (c .before .before .before .before .args .status) (drop (c .before .before .before .before .args .at) (now (c .before .before .before .before .args .raw))) (c .before .before .before .before .pre .2) (c .before .before .match .rest .0 .1) (λ e. c .before .before .match .rest .1 (inl e)) (λ e. c .before .before .match .rest .1 (inr e)) (c .before .if1 .taken))
+returns c =
+    let a = c .before .before .before .before .args in
+    c .refused .ensures
+    ∙ rw (status-common (rulesOf (a .rules)) (a .running .status) (a .begun .delta .0) (a .status) (drop (a .at) (now (a .raw))) (c .before .before .before .before .pre .2) (c .before .before .match .rest .0 .1) (λ e. c .before .before .match .rest .1 (inl e)) (λ e. c .before .before .match .rest .1 (inr e)) (c .before .if1 .taken))
 
 returns-2 : tie.Need-returns-2
-returns-2 c = c .meta .ensures ∙ rw (status-meta (rulesOf (c .before .before .before .args .rules)) (c .before .before .before .args .running .status) (c .before .before .before .args .begun .delta .0) (c .before .before .before .args .status) (drop (c .before .before .before .args .at) (now (c .before .before .before .args .raw))) (c .before .match .keys1))
+returns-2 c =
+    let a = c .before .before .before .args in
+    c .meta .ensures
+    ∙ rw (status-meta (rulesOf (a .rules)) (a .running .status) (a .begun .delta .0) (a .status) (drop (a .at) (now (a .raw))) (c .before .match .keys1))
 
 returns-3 : tie.Need-returns-3
-returns-3 c = c .payload .ensures ∙ rw (status-payload (rulesOf (c .before .before .before .args .rules)) (c .before .before .before .args .running .status) (c .before .before .before .args .begun .delta .0) (c .before .before .before .args .status) (drop (c .before .before .before .args .at) (now (c .before .before .before .args .raw))) (c .before .match .keys2))
+returns-3 c =
+    let a = c .before .before .before .args in
+    c .payload .ensures
+    ∙ rw (status-payload (rulesOf (a .rules)) (a .running .status) (a .begun .delta .0) (a .status) (drop (a .at) (now (a .raw))) (c .before .match .keys2))
 
 returns-4 : tie.Need-returns-4
 unfolding placed nameRaw
-returns-4 c = c .refused2 .ensures ∙ rw (status-realtime (rulesOf (c .before .before .before .before .args .rules)) (c .before .before .before .before .args .running .status) (c .before .before .before .before .args .begun .delta .0) (c .before .before .before .before .args .status) (drop (c .before .before .before .before .args .at) (now (c .before .before .before .before .args .raw))) (c .before .before .before .before .pre .2) (c .before .before .match .rest .0 .1) (λ e. c .before .before .match .rest .1 (inl e)) (λ e. c .before .before .match .rest .1 (inr e)) (c .before .if1 .left))
+returns-4 c =
+    let a = c .before .before .before .before .args in
+    c .refused2 .ensures
+    ∙ rw (status-realtime (rulesOf (a .rules)) (a .running .status) (a .begun .delta .0) (a .status) (drop (a .at) (now (a .raw))) (c .before .before .before .before .pre .2) (c .before .before .match .rest .0 .1) (λ e. c .before .before .match .rest .1 (inl e)) (λ e. c .before .before .match .rest .1 (inr e)) (c .before .if1 .left))
 
 pub status-kind-spec : {M : Type 1} → statement M
 status-kind-spec =

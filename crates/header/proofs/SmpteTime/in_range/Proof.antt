@@ -20,7 +20,9 @@ returns-2 : tie.Need-returns-2
 returns-2 c = sym (out-of-range (rulesOf (c .before .before .before .before .args .rules)) (smpteTimeOf (c .before .before .before .before .args .self)) (λ r. omega arith))
 
 returns-3 : tie.Need-returns-3
-returns-3 c = sym (out-of-range (rulesOf (c .before .before .before .before .before .before .args .rules)) (smpteTimeOf (c .before .before .before .before .before .before .args .self)) (λ r. omega arith))
+returns-3 c =
+    let a = c .before .before .before .before .before .before .args in
+    sym (out-of-range (rulesOf (a .rules)) (smpteTimeOf (a .self)) (λ r. omega arith))
 
 second-below : (c : tie.Else3) → c .before .before .before .before .before .before .args .self .second < 60
 second-below c = omega arith

@@ -7,7 +7,8 @@ use Rattle.loader.proofs.bends.apk_bend_as_f32.Statement.{statement}
 use Rattle.loader.proofs.bends.apk_bend_as_f32.Tie as tie
 
 returns : tie.Need-returns
-returns c = simp (← c .number .ensures, c .before .before .refusal .given .1, sym {b = askFloat binary32 (c .before .before .before .before .before .args .raw)} (c .before .before .before .before .as-f32 .ensures .0)) (refl, refl)
+returns c =
+    simp (← c .number .ensures, c .before .before .refusal .given .1, sym {b = askFloat binary32 (c .before .before .before .before .before .args .raw)} (c .before .before .before .before .as-f32 .ensures .0)) (refl, refl)
 
 returns-2 : tie.Need-returns-2
 returns-2 c = simp (c .before .found .given .1, sym {b = askFloat binary32 (c .before .before .before .before .args .raw)} (c .before .before .before .as-f32 .ensures .0)) (refl, refl)

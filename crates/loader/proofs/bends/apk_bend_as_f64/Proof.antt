@@ -7,7 +7,8 @@ use Rattle.loader.proofs.bends.apk_bend_as_f64.Statement.{statement}
 use Rattle.loader.proofs.bends.apk_bend_as_f64.Tie as tie
 
 returns : tie.Need-returns
-returns c = simp (← c .number .ensures, c .before .before .refusal .given .1, sym {b = askFloat binary64 (c .before .before .before .before .before .args .raw)} (c .before .before .before .before .as-f64 .ensures .0)) (refl, refl)
+returns c =
+    simp (← c .number .ensures, c .before .before .refusal .given .1, sym {b = askFloat binary64 (c .before .before .before .before .before .args .raw)} (c .before .before .before .before .as-f64 .ensures .0)) (refl, refl)
 
 returns-2 : tie.Need-returns-2
 returns-2 c = simp (c .before .found .given .1, sym {b = askFloat binary64 (c .before .before .before .before .args .raw)} (c .before .before .before .as-f64 .ensures .0)) (refl, refl)

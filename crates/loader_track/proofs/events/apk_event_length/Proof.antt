@@ -5,7 +5,8 @@ use Rattle.loader_track.proofs.events.apk_event_length.Statement.{state
 use Rattle.loader_track.proofs.events.apk_event_length.Tie as tie
 
 returns : tie.Need-returns
-returns c = simp (← c .before .before .before .before .before .rules .ensures, ← c .before .before .before .before .row-length .ensures, c .before .before .refusal .given .1) (c .number .ensures, (refl, refl))
+returns c =
+    simp (← c .before .before .before .before .before .rules .ensures, ← c .before .before .before .before .row-length .ensures, c .before .before .refusal .given .1) (c .number .ensures, (refl, refl))
 
 returns-2 : tie.Need-returns-2
 returns-2 c = simp (← c .before .before .before .before .rules .ensures, ← c .before .before .before .row-length .ensures, c .before .size .given .1) (refl, (refl, refl))

@@ -5,7 +5,8 @@ use Rattle.loader_track.proofs.list_write.apk_list_length.Statement.{st
 use Rattle.loader_track.proofs.list_write.apk_list_length.Tie as tie
 
 returns : tie.Need-returns
-returns c = simp (← c .before .before .before .before .rows-length .ensures, ← c .before .before .before .before .before .rules .ensures, c .before .before .n .given .1) (c .number .ensures, (refl, (refl, refl)))
+returns c =
+    simp (← c .before .before .before .before .rows-length .ensures, ← c .before .before .before .before .before .rules .ensures, c .before .before .n .given .1) (c .number .ensures, (refl, (refl, refl)))
 
 returns-2 : tie.Need-returns-2
 returns-2 c = simp (← c .before .before .before .rows-length .ensures, ← c .before .before .before .before .rules .ensures, c .before .size .given .1) (refl, (refl, (refl, refl)))

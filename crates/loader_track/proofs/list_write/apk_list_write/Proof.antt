@@ -5,10 +5,12 @@ use Rattle.loader_track.proofs.list_write.apk_list_write.Statement.{sta
 use Rattle.loader_track.proofs.list_write.apk_list_write.Tie as tie
 
 returns : tie.Need-returns
-returns c = simp (← c .before .before .before .before .before .before .write-rows .ensures, ← c .before .before .before .before .before .before .before .before .rules .ensures, c .before .before .n .given .1) (c .number .ensures, (refl, (refl, (refl, refl))))
+returns c =
+    simp (← c .before .before .before .before .before .before .write-rows .ensures, ← c .before .before .before .before .before .before .before .before .rules .ensures, c .before .before .n .given .1) (c .number .ensures, (refl, (refl, (refl, refl))))
 
 returns-2 : tie.Need-returns-2
-returns-2 c = simp (← c .before .before .before .before .before .write-rows .ensures, ← c .before .before .before .before .before .before .before .rules .ensures, c .before .size .given .1) (refl, (refl, (refl, (refl, refl))))
+returns-2 c =
+    simp (← c .before .before .before .before .before .write-rows .ensures, ← c .before .before .before .before .before .before .before .rules .ensures, c .before .size .given .1) (refl, (refl, (refl, (refl, refl))))
 
 pub apk-list-write-spec : {M : Type 1} → statement M
 apk-list-write-spec =

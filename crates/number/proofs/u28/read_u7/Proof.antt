@@ -25,7 +25,8 @@ add-int : tie.Need-add-int Inv-loop μ-loop
 add-int c = record { fits = omega (arith, room-more (c .before .before .before .loop .inv), c .wide .ensures) }
 
 returns-2 : tie.Need-returns-2 Inv-loop μ-loop
-returns-2 c = fourth-strict (c .before .before .before .before .before .before .loop .inv) (c .before .before .before .before .before .if1 .left) (c .before .before .if3 .left) (c .before .if4 .taken) (c .if5 .taken)
+returns-2 c =
+    fourth-strict (c .before .before .before .before .before .before .loop .inv) (c .before .before .before .before .before .if1 .left) (c .before .before .if3 .left) (c .before .if4 .taken) (c .if5 .taken)
 
 loop-again : tie.Need-loop-again Inv-loop μ-loop
 loop-again c = rw (c .before .before .wide .ensures) (more (c .before .before .before .before .before .loop .inv) (c .before .before .before .before .if1 .left) (c .before .if3 .left) (c .if4 .left))
@@ -37,7 +38,8 @@ returns-4 : tie.Need-returns-4 Inv-loop μ-loop
 returns-4 c = rw (c .before .wide .ensures) (last (c .before .before .before .before .loop .inv) (c .before .before .before .if1 .left) (c .if3 .taken))
 
 returns-5 : tie.Need-returns-5 Inv-loop μ-loop
-returns-5 c = rw (c .before .before .before .wide .ensures) (fourth-lenient (c .before .before .before .before .before .before .loop .inv) (c .before .before .before .before .before .if1 .left) (c .before .before .if3 .left) (c .before .if4 .taken) (c .if5 .left))
+returns-5 c =
+    rw (c .before .before .before .wide .ensures) (fourth-lenient (c .before .before .before .before .before .before .loop .inv) (c .before .before .before .before .before .if1 .left) (c .before .before .if3 .left) (c .before .if4 .taken) (c .if5 .left))
 
 pub read-u7-spec : {M : Type 1} → statement M
 read-u7-spec =

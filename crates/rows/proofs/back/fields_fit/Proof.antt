@@ -91,7 +91,9 @@ returns-21 c = rw (c .match .keys19)
 
 returns-22 : tie.Need-returns-22
 unfolding fieldsFit
-returns-22 c = let m = c .before .match in rw (ne-eqb _ _ (m .rest .0 .0 .0 .0 .0 .0 .0 .0 .0 .0 .0 .0 .0 .0 .0 .0 .0 .0 .1), ne-eqb _ _ (m .rest .0 .0 .0 .0 .0 .0 .0 .0 .0 .0 .0 .0 .0 .0 .0 .0 .0 .1), ne-eqb _ _ (m .rest .0 .0 .0 .0 .0 .0 .0 .0 .0 .0 .0 .0 .0 .0 .0 .0 .1), ne-eqb _ _ (m .rest .0 .0 .0 .0 .0 .0 .0 .0 .0 .0 .0 .0 .0 .0 .0 .1), ne-eqb _ _ (m .rest .0 .0 .0 .0 .0 .0 .0 .0 .0 .0 .0 .0 .0 .0 .1), ne-eqb _ _ (m .rest .0 .0 .0 .0 .0 .0 .0 .0 .0 .0 .0 .0 .0 .1), ne-eqb _ _ (m .rest .0 .0 .0 .0 .0 .0 .0 .0 .0 .0 .0 .0 .1), ne-eqb _ _ (m .rest .0 .0 .0 .0 .0 .0 .0 .0 .0 .0 .0 .1), ne-eqb _ _ (m .rest .0 .0 .0 .0 .0 .0 .0 .0 .0 .0 .1), ne-eqb _ _ (m .rest .0 .0 .0 .0 .0 .0 .0 .0 .0 .1), ne-eqb _ _ (m .rest .0 .0 .0 .0 .0 .0 .0 .0 .1), ne-eqb _ _ (m .rest .0 .0 .0 .0 .0 .0 .0 .1), ne-eqb _ _ (m .rest .0 .0 .0 .0 .0 .0 .1), ne-eqb _ _ (m .rest .0 .0 .0 .0 .0 .1), ne-eqb _ _ (m .rest .0 .0 .0 .0 .1), ne-eqb _ _ (m .rest .0 .0 .0 .1), ne-eqb _ _ (m .rest .0 .0 .1), ne-eqb _ _ (m .rest .0 .1), ne-eqb _ _ (m .rest .1)) (c .is-text .ensures)
+returns-22 c =
+    let m = c .before .match in
+    rw (ne-eqb _ _ (m .rest .0 .0 .0 .0 .0 .0 .0 .0 .0 .0 .0 .0 .0 .0 .0 .0 .0 .0 .1), ne-eqb _ _ (m .rest .0 .0 .0 .0 .0 .0 .0 .0 .0 .0 .0 .0 .0 .0 .0 .0 .0 .1), ne-eqb _ _ (m .rest .0 .0 .0 .0 .0 .0 .0 .0 .0 .0 .0 .0 .0 .0 .0 .0 .1), ne-eqb _ _ (m .rest .0 .0 .0 .0 .0 .0 .0 .0 .0 .0 .0 .0 .0 .0 .0 .1), ne-eqb _ _ (m .rest .0 .0 .0 .0 .0 .0 .0 .0 .0 .0 .0 .0 .0 .0 .1), ne-eqb _ _ (m .rest .0 .0 .0 .0 .0 .0 .0 .0 .0 .0 .0 .0 .0 .1), ne-eqb _ _ (m .rest .0 .0 .0 .0 .0 .0 .0 .0 .0 .0 .0 .0 .1), ne-eqb _ _ (m .rest .0 .0 .0 .0 .0 .0 .0 .0 .0 .0 .0 .1), ne-eqb _ _ (m .rest .0 .0 .0 .0 .0 .0 .0 .0 .0 .0 .1), ne-eqb _ _ (m .rest .0 .0 .0 .0 .0 .0 .0 .0 .0 .1), ne-eqb _ _ (m .rest .0 .0 .0 .0 .0 .0 .0 .0 .1), ne-eqb _ _ (m .rest .0 .0 .0 .0 .0 .0 .0 .1), ne-eqb _ _ (m .rest .0 .0 .0 .0 .0 .0 .1), ne-eqb _ _ (m .rest .0 .0 .0 .0 .0 .1), ne-eqb _ _ (m .rest .0 .0 .0 .0 .1), ne-eqb _ _ (m .rest .0 .0 .0 .1), ne-eqb _ _ (m .rest .0 .0 .1), ne-eqb _ _ (m .rest .0 .1), ne-eqb _ _ (m .rest .1)) (c .is-text .ensures)
 
 pub fields-fit-spec : {M : Type 1} → statement M
 fields-fit-spec = tie.close (tie.spec (λ c κs. search needs) (λ c κs. search needs) returns returns-2 (λ c κs. search needs) (λ c κs. search needs) (λ c κs. search needs) returns-3 returns-4 returns-5 returns-6 returns-7 returns-8 returns-9 returns-10 returns-11 returns-12 returns-13 returns-14 returns-15 returns-16 returns-17 returns-18 returns-19 returns-20 returns-21 returns-22)

@@ -104,7 +104,9 @@ returns-10 c = rw (c .match .keys10)
 
 returns-11 : tie.Need-returns-11
 unfolding rowMeta
-returns-11 c = let m = c .before .match in rw (ne-eqb _ _ (m .rest .0 .0 .0 .0 .0 .0 .0 .0 .0 .1), ne-eqb _ _ (m .rest .0 .0 .0 .0 .0 .0 .0 .0 .1), ne-eqb _ _ (m .rest .0 .0 .0 .0 .0 .0 .0 .1), ne-eqb _ _ (m .rest .0 .0 .0 .0 .0 .0 .1), ne-eqb _ _ (m .rest .0 .0 .0 .0 .0 .1), ne-eqb _ _ (m .rest .0 .0 .0 .0 .1), ne-eqb _ _ (m .rest .0 .0 .0 .1), ne-eqb _ _ (m .rest .0 .0 .1), ne-eqb _ _ (m .rest .0 .1), ne-eqb _ _ (m .rest .1)) (c .text .ensures)
+returns-11 c =
+    let m = c .before .match in
+    rw (ne-eqb _ _ (m .rest .0 .0 .0 .0 .0 .0 .0 .0 .0 .1), ne-eqb _ _ (m .rest .0 .0 .0 .0 .0 .0 .0 .0 .1), ne-eqb _ _ (m .rest .0 .0 .0 .0 .0 .0 .0 .1), ne-eqb _ _ (m .rest .0 .0 .0 .0 .0 .0 .1), ne-eqb _ _ (m .rest .0 .0 .0 .0 .0 .1), ne-eqb _ _ (m .rest .0 .0 .0 .0 .1), ne-eqb _ _ (m .rest .0 .0 .0 .1), ne-eqb _ _ (m .rest .0 .0 .1), ne-eqb _ _ (m .rest .0 .1), ne-eqb _ _ (m .rest .1)) (c .text .ensures)
 
 pub meta-spec : {M : Type 1} → statement M
 meta-spec = tie.close (tie.spec track-number-requires cast-t11 cast-t13 cast-t15 time-requires cast-t18 cast-t19 cast-t20 cast-t21 cast-from-byte (λ c κs. search needs) cast-t25 text-requires returns returns-2 returns-3 returns-4 returns-5 returns-6 returns-7 returns-8 returns-9 returns-10 returns-11)

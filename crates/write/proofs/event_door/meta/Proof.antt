@@ -65,10 +65,15 @@ returns-15 : tie.Need-returns-15
 returns-15 c = rw (c .before .before .message14 .given .1) (c .time .ensures _)
 
 returns-16 : tie.Need-returns-16
-returns-16 c = let v = c .before .before .message15 .given .0 in rw (c .before .before .message15 .given .1, signature-fits _ _ {a = v .0} {b = v .1 .0} {c = v .1 .1 .0} {d = v .1 .1 .1 .0} (omega arith) (omega arith) (omega arith) (omega arith)) (c .signature .ensures _)
+returns-16 c =
+    let v = c .before .before .message15 .given .0 in
+    rw (c .before .before .message15 .given .1, signature-fits _ _ {a = v .0} {b = v .1 .0} {c = v .1 .1 .0} {d = v .1 .1 .1 .0} (omega arith) (omega arith) (omega arith) (omega arith)) (c .signature .ensures _)
 
 returns-17 : tie.Need-returns-17
-returns-17 c = let v = c .before .before .before .message16 .given .0 in let byte : SFits w8 (v .0) = search needs in rw (c .before .before .before .message16 .given .1, key-fits _ _ (v .0) (v .1 .0) (byte .sfits)) (c .key .ensures _ ∙ rw (c .before .to-byte .ensures, toZ-ofZ byte))
+returns-17 c =
+    let v = c .before .before .before .message16 .given .0 in
+    let byte : SFits w8 (v .0) = search needs in
+    rw (c .before .before .before .message16 .given .1, key-fits _ _ (v .0) (v .1 .0) (byte .sfits)) (c .key .ensures _ ∙ rw (c .before .to-byte .ensures, toZ-ofZ byte))
 
 returns-18 : tie.Need-returns-18
 returns-18 c = rw (c .before .before .message17 .given .1) (c .typed10 .ensures ∙ sym (sequencer-made _ _ _))

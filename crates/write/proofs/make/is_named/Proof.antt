@@ -49,7 +49,9 @@ returns-9 c = rw (c .match .keys8)
 
 returns-10 : tie.Need-returns-10
 unfolding isNamed
-returns-10 c = rw (lt-leb _ _ (c .before .if1 .left), ne-eqb _ _ (c .match .rest .0 .0 .0 .0 .0 .0 .0 .1), ne-eqb _ _ (c .match .rest .0 .0 .0 .0 .0 .0 .1), ne-eqb _ _ (c .match .rest .0 .0 .0 .0 .0 .1), ne-eqb _ _ (c .match .rest .0 .0 .0 .0 .1), ne-eqb _ _ (c .match .rest .0 .0 .0 .1), ne-eqb _ _ (c .match .rest .0 .0 .1), ne-eqb _ _ (c .match .rest .0 .1), ne-eqb _ _ (c .match .rest .1))
+returns-10 c =
+    let x = c .match .rest .0 .0 in
+    rw (lt-leb _ _ (c .before .if1 .left), ne-eqb _ _ (x .0 .0 .0 .0 .0 .1), ne-eqb _ _ (x .0 .0 .0 .0 .1), ne-eqb _ _ (x .0 .0 .0 .1), ne-eqb _ _ (x .0 .0 .1), ne-eqb _ _ (x .0 .1), ne-eqb _ _ (x .1), ne-eqb _ _ (c .match .rest .0 .1), ne-eqb _ _ (c .match .rest .1))
 
 pub is-named-spec : {M : Type 1} → statement M
 is-named-spec =

@@ -13,7 +13,8 @@ use Rattle.write.proofs.make.own_bytes.Tie as tie
 
 returns : tie.Need-returns
 unfolding isSound wireOf
-returns c = λ bytes. rw (le-leb (c .args .n) 5 (omega (arith, c .pre))) (ap (λ (l : List ℕ). gives (typed (c .args .type-byte) l)) (take-append-le (c .args .n) (c .args .a ∷ c .args .b ∷ []) (0 ∷ 0 ∷ 0 ∷ []) (c .pre)))
+returns c =
+    λ bytes. rw (le-leb (c .args .n) 5 (omega (arith, c .pre))) (ap (λ (l : List ℕ). gives (typed (c .args .type-byte) l)) (take-append-le (c .args .n) (c .args .a ∷ c .args .b ∷ []) (0 ∷ 0 ∷ 0 ∷ []) (c .pre)))
 
 pub own-bytes-spec : {M : Type 1} → statement M
 own-bytes-spec = tie.close (tie.spec returns)

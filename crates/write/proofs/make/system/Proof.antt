@@ -10,11 +10,18 @@ use Rattle.write.proofs.make.system.Statement.{statement}
 use Rattle.write.proofs.make.system.Tie as tie
 
 returns : tie.Need-returns
-returns c = let d = c .before .before .before in let a = d .before .before .args in sym (looked-refused (a .bytes .now) (spanOf (a .load)) (d .look .result) (d .look .ensures) _ _ (c .before .refusal .given .1))
+returns c =
+    let d = c .before .before .before in
+    let a = d .before .before .args in
+    sym (looked-refused (a .bytes .now) (spanOf (a .load)) (d .look .result) (d .look .ensures) _ _ (c .before .refusal .given .1))
 
 returns-2 : tie.Need-returns-2
 unfolding isSound wireOf
-returns-2 c = let d = c .before .before in let a = d .before .before .args in let t = looked-there (a .bytes .now) (spanOf (a .load)) (d .look .result) (d .look .ensures) (wire.system (a .status) (bytesOf (a .bytes .now) (spanOf (a .load)))) (c .enum-told .given .1) in rw (t .1) (sym (t .0))
+returns-2 c =
+    let d = c .before .before in
+    let a = d .before .before .args in
+    let t = looked-there (a .bytes .now) (spanOf (a .load)) (d .look .result) (d .look .ensures) (wire.system (a .status) (bytesOf (a .bytes .now) (spanOf (a .load)))) (c .enum-told .given .1) in
+    rw (t .1) (sym (t .0))
 
 pub system-spec : {M : Type 1} → statement M
 system-spec = tie.close (tie.spec (λ c κs. search needs) (λ c. search needs) (λ c. search needs) returns returns-2)

@@ -10,7 +10,9 @@ use Rattle.write.proofs.make.time.Tie as tie
 
 returns : tie.Need-returns
 unfolding isSound wireOf
-returns c = let a = c .before .before .before .before .args in λ bytes. time-given (rulesOf (a .rules)) bytes (smpteTimeOf (a .time)) _ _ _ _ _ _ (c .before .before .before .encode .ensures) (c .before .a .given .1)
+returns c =
+    let a = c .before .before .before .before .args in
+    λ bytes. time-given (rulesOf (a .rules)) bytes (smpteTimeOf (a .time)) _ _ _ _ _ _ (c .before .before .before .encode .ensures) (c .before .a .given .1)
 
 returns-2 : tie.Need-returns-2
 returns-2 c = let a = c .before .before .before .args in λ bytes. time-refused (rulesOf (a .rules)) bytes (smpteTimeOf (a .time)) _ _ (c .before .before .encode .ensures) (c .enum-told .given .1)

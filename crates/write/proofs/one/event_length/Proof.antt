@@ -15,7 +15,9 @@ unfolding sizeEvent
 returns c = rw (← c .before .is-valid .ensures, not-true (c .before .is-valid .result) (c .if1 .taken))
 
 measured-requires : tie.Need-measured-requires
-measured-requires c κs = let a = c .before .before .before .before .args in told (a .bytes .now) (legal (rulesOf (a .rules)) (a .bytes .now) (eventOf (a .event))) (legal-number (rulesOf (a .rules)) (a .bytes .now) (eventOf (a .event))) (c .event-raw .result) (c .event-raw .ensures)
+measured-requires c κs =
+    let a = c .before .before .before .before .args in
+    told (a .bytes .now) (legal (rulesOf (a .rules)) (a .bytes .now) (eventOf (a .event))) (legal-number (rulesOf (a .rules)) (a .bytes .now) (eventOf (a .event))) (c .event-raw .result) (c .event-raw .ensures)
 
 returns-2 : tie.Need-returns-2
 unfolding sizeEvent sizeJudged

@@ -15,10 +15,16 @@ unfolding writeEvent
 returns c = rw (← c .before .is-valid .ensures, not-true (c .before .is-valid .result) (c .if1 .taken))
 
 written-requires : tie.Need-written-requires
-written-requires c κs = let a = c .before .before .before .before .before .before .args in told (a .bytes .now) (legal (rulesOf (a .rules)) (a .bytes .now) (eventOf (a .event))) (legal-number (rulesOf (a .rules)) (a .bytes .now) (eventOf (a .event))) (c .before .event-raw .result) (c .before .event-raw .ensures)
+written-requires c κs =
+    let a = c .before .before .before .before .before .before .args in
+    told (a .bytes .now) (legal (rulesOf (a .rules)) (a .bytes .now) (eventOf (a .event))) (legal-number (rulesOf (a .rules)) (a .bytes .now) (eventOf (a .event))) (c .before .event-raw .result) (c .before .event-raw .ensures)
 
 returns-2 : tie.Need-returns-2
-returns-2 c = let a = c .before .before .before .before .before .before .before .before .before .args in let v = c .before .before .before .before .before .before .is-valid in rw (write-valid (a .running .status) (legal (rulesOf (a .rules)) (a .bytes .now) (eventOf (a .event))) (a .out .now) (a .at) (sym (v .ensures) ∙ not-false (v .result) (c .before .before .before .before .before .if1 .left)), ← c .before .before .before .before .event-raw .ensures) (c .before .before .written .ensures)
+returns-2 c =
+    let p = c .before .before .before .before in
+    let a = p .before .before .before .before .before .args in
+    let v = p .before .before .is-valid in
+    rw (write-valid (a .running .status) (legal (rulesOf (a .rules)) (a .bytes .now) (eventOf (a .event))) (a .out .now) (a .at) (sym (v .ensures) ∙ not-false (v .result) (p .before .if1 .left)), ← p .event-raw .ensures) (c .before .before .written .ensures)
 
 pub write-event-spec : {M : Type 1} → statement M
 write-event-spec =

@@ -30,26 +30,48 @@ measured-requires c κs = told _ _ (legal-number _ _ _) (c .record-raw .result) 
 
 -- the record that is measured is one that counts
 inside : (c : tie.After-measured Inv-loop μ-loop) → let l = c .before .before .before .before .loop in let a = c .before .before .before .before .before .before .args in l .index < length (recordsCounted (rulesOf (a .rules)) (a .bytes .now) (a .t1 .records) (a .t1 .count))
-inside c = let l = c .before .before .before .before .loop in let a = c .before .before .before .before .before .before .args in omega (arith, records-counted (rulesOf (a .rules)) (a .bytes .now) (a .t1 .records) (a .t1 .count) (l .inv .0), c .before .before .before .loop-test .taken)
+inside c =
+    let l = c .before .before .before .before .loop in
+    let a = c .before .before .before .before .before .before .args in
+    omega (arith, records-counted (rulesOf (a .rules)) (a .bytes .now) (a .t1 .records) (a .t1 .count) (l .inv .0), c .before .before .before .loop-test .taken)
 
 there : (c : tie.After-measured Inv-loop μ-loop) → let l = c .before .before .before .before .loop in let a = c .before .before .before .before .before .before .args in getD (recordsCounted (rulesOf (a .rules)) (a .bytes .now) (a .t1 .records) (a .t1 .count)) (l .index) (legal (rulesOf (a .rules)) (a .bytes .now) (recordOf past)) ≡ legal (rulesOf (a .rules)) (a .bytes .now) (recordOf (getD (a .t1 .records) (l .index) past))
-there c = let l = c .before .before .before .before .loop in let a = c .before .before .before .before .before .before .args in record-counted (rulesOf (a .rules)) (a .bytes .now) (a .t1 .records) (a .t1 .count) (l .index) (c .before .before .before .loop-test .taken)
+there c =
+    let l = c .before .before .before .before .loop in
+    let a = c .before .before .before .before .before .before .args in
+    record-counted (rulesOf (a .rules)) (a .bytes .now) (a .t1 .records) (a .t1 .count) (l .index) (c .before .before .before .loop-test .taken)
 
 said : (c : tie.After-measured Inv-loop μ-loop) → let l = c .before .before .before .before .loop in let a = c .before .before .before .before .before .before .args in lengthSaid (c .measured .result) ≡ sizeJudged (l .status) (legal (rulesOf (a .rules)) (a .bytes .now) (recordOf (getD (a .t1 .records) (l .index) past)))
 unfolding sizeJudged
 said c = rw (← c .before .record-raw .ensures) (c .measured .ensures)
 
 returns : tie.Need-returns Inv-loop μ-loop
-returns c = let m = c .before .before .before in let l = m .before .before .before .before .loop in let a = m .before .before .before .before .before .before .args in seen-illegal (a .running .status) (recordsCounted (rulesOf (a .rules)) (a .bytes .now) (a .t1 .records) (a .t1 .count)) (l .inv .2) (inside m) (legal (rulesOf (a .rules)) (a .bytes .now) (recordOf past)) _ (there m) (m .measured .result) (said m) (c .before .refusal .given .0 .0) (c .before .refusal .given .1)
+returns c =
+    let m = c .before .before .before in
+    let l = m .before .before .before .before .loop in
+    let a = m .before .before .before .before .before .before .args in
+    seen-illegal (a .running .status) (recordsCounted (rulesOf (a .rules)) (a .bytes .now) (a .t1 .records) (a .t1 .count)) (l .inv .2) (inside m) (legal (rulesOf (a .rules)) (a .bytes .now) (recordOf past)) _ (there m) (m .measured .result) (said m) (c .before .refusal .given .0 .0) (c .before .refusal .given .1)
 
 add-length : tie.Need-add-length Inv-loop μ-loop
-add-length c = let m = c .before .before .before .before in let l = m .before .before .before .before .loop in let a = m .before .before .before .before .before .before .args in let most = seen-most (a .running .status) (recordsCounted (rulesOf (a .rules)) (a .bytes .now) (a .t1 .records) (a .t1 .count)) (l .inv .2) (inside m) (legal (rulesOf (a .rules)) (a .bytes .now) (recordOf past)) _ (there m) (m .measured .result) (said m) (rulesOf (a .rules)) (record-lawful (rulesOf (a .rules)) (a .bytes .now) (recordOf (getD (a .t1 .records) (l .index) past))) (c .before .before .size .given .0 .0) (c .before .before .size .given .1) in omega (arith, most, l .inv .2 .small, m .before .before .before .before .before .before .pre)
+add-length c =
+    let m = c .before .before .before .before in
+    let l = m .before .before .before .before .loop in
+    let a = m .before .before .before .before .before .before .args in
+    let most = seen-most (a .running .status) (recordsCounted (rulesOf (a .rules)) (a .bytes .now) (a .t1 .records) (a .t1 .count)) (l .inv .2) (inside m) (legal (rulesOf (a .rules)) (a .bytes .now) (recordOf past)) _ (there m) (m .measured .result) (said m) (rulesOf (a .rules)) (record-lawful (rulesOf (a .rules)) (a .bytes .now) (recordOf (getD (a .t1 .records) (l .index) past))) (c .before .before .size .given .0 .0) (c .before .before .size .given .1) in
+    omega (arith, most, l .inv .2 .small, m .before .before .before .before .before .before .pre)
 
 loop-again : tie.Need-loop-again Inv-loop μ-loop
-loop-again c = let m = c .before .before .before .before in let l = m .before .before .before .before .loop in let a = m .before .before .before .before .before .before .args in (l .inv .0, omega arith, seen-more (a .running .status) (recordsCounted (rulesOf (a .rules)) (a .bytes .now) (a .t1 .records) (a .t1 .count)) (l .inv .2) (inside m) (legal (rulesOf (a .rules)) (a .bytes .now) (recordOf past)) _ (there m) (m .measured .result) (said m) (rulesOf (a .rules)) (record-lawful (rulesOf (a .rules)) (a .bytes .now) (recordOf (getD (a .t1 .records) (l .index) past))) (c .before .before .size .given .0 .0) (c .before .before .size .given .1))
+loop-again c =
+    let m = c .before .before .before .before in
+    let l = m .before .before .before .before .loop in
+    let a = m .before .before .before .before .before .before .args in
+    (l .inv .0, omega arith, seen-more (a .running .status) (recordsCounted (rulesOf (a .rules)) (a .bytes .now) (a .t1 .records) (a .t1 .count)) (l .inv .2) (inside m) (legal (rulesOf (a .rules)) (a .bytes .now) (recordOf past)) _ (there m) (m .measured .result) (said m) (rulesOf (a .rules)) (record-lawful (rulesOf (a .rules)) (a .bytes .now) (recordOf (getD (a .t1 .records) (l .index) past))) (c .before .before .size .given .0 .0) (c .before .before .size .given .1))
 
 returns-2 : tie.Need-returns-2 Inv-loop μ-loop
-returns-2 c = let l = c .before .loop in let a = c .before .before .before .args in seen-last (a .running .status) (recordsCounted (rulesOf (a .rules)) (a .bytes .now) (a .t1 .records) (a .t1 .count)) (l .inv .2) (omega (arith, records-counted (rulesOf (a .rules)) (a .bytes .now) (a .t1 .records) (a .t1 .count) (l .inv .0)))
+returns-2 c =
+    let l = c .before .loop in
+    let a = c .before .before .before .args in
+    seen-last (a .running .status) (recordsCounted (rulesOf (a .rules)) (a .bytes .now) (a .t1 .records) (a .t1 .count)) (l .inv .2) (omega (arith, records-counted (rulesOf (a .rules)) (a .bytes .now) (a .t1 .records) (a .t1 .count) (l .inv .0)))
 
 pub measure-records-spec : {M : Type 1} → statement M
 measure-records-spec =

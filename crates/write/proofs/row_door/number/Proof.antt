@@ -17,7 +17,9 @@ returns c = λ rules bytes. rw (c .before .if1 .taken) (c .own-bytes .ensures by
 
 returns-2 : tie.Need-returns-2
 unfolding rowNumber
-returns-2 c = let n = c .before .before .args .number in λ rules bytes. rw (ne-eqb _ 0 (c .before .if1 .left), number-made rules bytes n) (c .track-number .ensures bytes ∙ sym (narrower (ltb n 65536) (ltb n 65536) _ (refuses 18) (λ t. t)))
+returns-2 c =
+    let n = c .before .before .args .number in
+    λ rules bytes. rw (ne-eqb _ 0 (c .before .if1 .left), number-made rules bytes n) (c .track-number .ensures bytes ∙ sym (narrower (ltb n 65536) (ltb n 65536) _ (refuses 18) (λ t. t)))
 
 pub number-spec : {M : Type 1} → statement M
 number-spec = tie.close (tie.spec (λ c κs. search needs) returns (λ c κs. search needs) returns-2)

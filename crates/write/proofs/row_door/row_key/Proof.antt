@@ -13,7 +13,10 @@ returns : tie.Need-returns
 returns c = λ rules bytes. rw (le-ltb _ _ (c .if1 .taken))
 
 returns-2 : tie.Need-returns-2
-returns-2 c = let s = c .before .before .args .sharps in let h = c .before .if1 .left in λ rules bytes. rw (lt-ltb s 256 h, key-fits rules bytes (signedByte s) _ (signed-below s h), byte-back s h) (c .key .ensures bytes)
+returns-2 c =
+    let s = c .before .before .args .sharps in
+    let h = c .before .if1 .left in
+    λ rules bytes. rw (lt-ltb s 256 h, key-fits rules bytes (signedByte s) _ (signed-below s h), byte-back s h) (c .key .ensures bytes)
 
 pub row-key-spec : {M : Type 1} → statement M
 row-key-spec = tie.close (tie.spec returns (λ c. search needs) (λ c κs. search needs) returns-2)

@@ -20,11 +20,15 @@ returns c = rw (c .before .match .keys1) (c .number .ensures _ _)
 
 returns-2 : tie.Need-returns-2
 unfolding fieldsFit rowMeta
-returns-2 c = let a = c .before .before .before .args in rw (c .before .match .keys2, channel-made (rulesOf (a .rules)) (a .bytes .now) (a .a)) (c .narrow .ensures _ ∙ sym (narrower (ltb (a .a) 256) (ltb (a .a) 16) _ _ (small (a .a) 16 256 (omega arith))))
+returns-2 c =
+    let a = c .before .before .before .args in
+    rw (c .before .match .keys2, channel-made (rulesOf (a .rules)) (a .bytes .now) (a .a)) (c .narrow .ensures _ ∙ sym (narrower (ltb (a .a) 256) (ltb (a .a) 16) _ _ (small (a .a) 16 256 (omega arith))))
 
 returns-3 : tie.Need-returns-3
 unfolding fieldsFit rowMeta
-returns-3 c = let a = c .before .before .before .args in rw (c .before .match .keys3, port-made (rulesOf (a .rules)) (a .bytes .now) (a .a)) (c .narrow2 .ensures _ ∙ sym (narrower (ltb (a .a) 256) (ltb (a .a) 128) _ _ (small (a .a) 128 256 (omega arith))))
+returns-3 c =
+    let a = c .before .before .before .args in
+    rw (c .before .match .keys3, port-made (rulesOf (a .rules)) (a .bytes .now) (a .a)) (c .narrow2 .ensures _ ∙ sym (narrower (ltb (a .a) 256) (ltb (a .a) 128) _ _ (small (a .a) 128 256 (omega arith))))
 
 returns-4 : tie.Need-returns-4
 unfolding fieldsFit rowMeta
@@ -32,7 +36,9 @@ returns-4 c = rw (c .before .match .keys4) (c .own-bytes .ensures _ ∙ sym (end
 
 returns-5 : tie.Need-returns-5
 unfolding fieldsFit rowMeta
-returns-5 c = let a = c .before .before .before .args in rw (c .before .match .keys5, tempo-made (rulesOf (a .rules)) (a .bytes .now) (a .a)) (c .tempo .ensures _ ∙ sym (narrower (ltb (a .a) (2 ^ 32)) (ltb (a .a) 16777216) _ _ (small (a .a) 16777216 (2 ^ 32) (omega arith))))
+returns-5 c =
+    let a = c .before .before .before .args in
+    rw (c .before .match .keys5, tempo-made (rulesOf (a .rules)) (a .bytes .now) (a .a)) (c .tempo .ensures _ ∙ sym (narrower (ltb (a .a) (2 ^ 32)) (ltb (a .a) 16777216) _ _ (small (a .a) 16777216 (2 ^ 32) (omega arith))))
 
 returns-6 : tie.Need-returns-6
 unfolding fieldsFit rowMeta
@@ -55,7 +61,11 @@ unfolding fieldsFit rowMeta
 returns-10 c = rw (c .before .match .keys10) (c .row-unknown .ensures)
 
 returns-11 : tie.Need-returns-11
-returns-11 c = let a = c .before .before .before .args in let p = c .before .before .before .pre in rw (text-fits (rulesOf (a .rules)) (a .bytes .now) (a .a) (a .b) (a .c) (a .d) (a .e) (a .f) (a .number) (p .0) (p .1) (p .2) (c .before .match .rest .0 .0 .0 .0 .0 .0 .0 .0 .0 .1) (c .before .match .rest .0 .0 .0 .0 .0 .0 .0 .0 .1) (c .before .match .rest .0 .0 .0 .0 .0 .0 .0 .1) (c .before .match .rest .0 .0 .0 .0 .0 .0 .1) (c .before .match .rest .0 .0 .0 .0 .0 .1) (c .before .match .rest .0 .0 .0 .0 .1) (c .before .match .rest .0 .0 .0 .1) (c .before .match .rest .0 .0 .1) (c .before .match .rest .0 .1) (c .before .match .rest .1), text-meta (rulesOf (a .rules)) (a .bytes .now) (a .a) (a .b) (a .c) (a .d) (a .e) (a .f) (a .number) (p .0) (p .1) (p .2) (c .before .match .rest .0 .0 .0 .0 .0 .0 .0 .0 .0 .1) (c .before .match .rest .0 .0 .0 .0 .0 .0 .0 .0 .1) (c .before .match .rest .0 .0 .0 .0 .0 .0 .0 .1) (c .before .match .rest .0 .0 .0 .0 .0 .0 .1) (c .before .match .rest .0 .0 .0 .0 .0 .1) (c .before .match .rest .0 .0 .0 .0 .1) (c .before .match .rest .0 .0 .0 .1) (c .before .match .rest .0 .0 .1) (c .before .match .rest .0 .1) (c .before .match .rest .1) (spanOf (a .load))) (c .row-text .ensures _)
+returns-11 c =
+    let x = c .before .match .rest .0 in
+    let a = c .before .before .before .args in
+    let p = c .before .before .before .pre in
+    rw (text-fits (rulesOf (a .rules)) (a .bytes .now) (a .a) (a .b) (a .c) (a .d) (a .e) (a .f) (a .number) (p .0) (p .1) (p .2) (x .0 .0 .0 .0 .0 .0 .0 .0 .1) (x .0 .0 .0 .0 .0 .0 .0 .1) (x .0 .0 .0 .0 .0 .0 .1) (x .0 .0 .0 .0 .0 .1) (x .0 .0 .0 .0 .1) (x .0 .0 .0 .1) (x .0 .0 .1) (x .0 .1) (x .1) (c .before .match .rest .1), text-meta (rulesOf (a .rules)) (a .bytes .now) (a .a) (a .b) (a .c) (a .d) (a .e) (a .f) (a .number) (p .0) (p .1) (p .2) (x .0 .0 .0 .0 .0 .0 .0 .0 .1) (x .0 .0 .0 .0 .0 .0 .0 .1) (x .0 .0 .0 .0 .0 .0 .1) (x .0 .0 .0 .0 .0 .1) (x .0 .0 .0 .0 .1) (x .0 .0 .0 .1) (x .0 .0 .1) (x .0 .1) (x .1) (c .before .match .rest .1) (spanOf (a .load))) (c .row-text .ensures _)
 
 pub row-meta-spec : {M : Type 1} → statement M
 row-meta-spec =

@@ -14,7 +14,10 @@ returns : tie.Need-returns
 returns c = let a = c .before .before .args in row-wide (rulesOf (a .rules)) (a .bytes .now) (a .t1) (c .if1 .taken)
 
 returns-2 : tie.Need-returns-2
-returns-2 c = let a = c .before .before .before .before .args in let long : width ≤ length (a .t1) = search needs in rw (row-narrow (rulesOf (a .rules)) (a .bytes .now) (a .t1) long (c .before .before .if1 .left), ← c .before .row-made .ensures) (c .behind .ensures (a .bytes .now))
+returns-2 c =
+    let a = c .before .before .before .before .args in
+    let long : width ≤ length (a .t1) = search needs in
+    rw (row-narrow (rulesOf (a .rules)) (a .bytes .now) (a .t1) long (c .before .before .if1 .left), ← c .before .row-made .ensures) (c .behind .ensures (a .bytes .now))
 
 pub row-raw-spec : {M : Type 1} → statement M
 row-raw-spec =

@@ -16,7 +16,10 @@ returns-2 : tie.Need-returns-2
 returns-2 c = λ rules. rw (text-high _ (c .if2 .taken))
 
 returns-3 : tie.Need-returns-3
-returns-3 c = let a = c .before .before .before .before .args in let t = text-is (a .number) (c .before .before .if1 .left) (c .before .if2 .left) in λ rules. rw (t, text-made rules (a .bytes .now) (a .number - 0x100) (spanOf (a .load)) t) (c .typed .ensures)
+returns-3 c =
+    let a = c .before .before .before .before .args in
+    let t = text-is (a .number) (c .before .before .if1 .left) (c .before .if2 .left) in
+    λ rules. rw (t, text-made rules (a .bytes .now) (a .number - 0x100) (spanOf (a .load)) t) (c .typed .ensures)
 
 pub row-text-spec : {M : Type 1} → statement M
 row-text-spec =

@@ -14,7 +14,10 @@ returns : tie.Need-returns
 returns c = rw (c .before .judged .given .1)
 
 returns-2 : tie.Need-returns-2
-returns-2 c = let s = c .before .before .before .before .before in let t = subst (LetThrough (s .args .bytes .now)) (c .before .before .judged2 .given .1) (s .pre) in rw (c .before .before .judged2 .given .1, lt-ltb _ _ (t .0), t .1) (ap gives (c .raw-size .ensures))
+returns-2 c =
+    let s = c .before .before .before .before .before in
+    let t = subst (LetThrough (s .args .bytes .now)) (c .before .before .judged2 .given .1) (s .pre) in
+    rw (c .before .before .judged2 .given .1, lt-ltb _ _ (t .0), t .1) (ap gives (c .raw-size .ensures))
 
 pub measured-spec : {M : Type 1} → statement M
 measured-spec =
