@@ -7,6 +7,7 @@ use Rattle.claims.proofs.Point1.{point-1}
 use Rattle.claims.proofs.Point2.{point-2}
 use Rattle.claims.proofs.Point3.{writes}
 use Rattle.claims.proofs.Point3Calls.{point-3}
+use Rattle.claims.proofs.SmfForms.{smf-forms}
 
 pub all : All
 all =
@@ -19,4 +20,5 @@ all =
       point-2 = point-2;
       point-3 = point-3;
       writes = writes;
+      smf-forms = smf-forms;
     }

@@ -4,6 +4,8 @@ pub mod ReadLeaves
 pub mod Stands
 pub mod EventWrites
 pub mod ListLeaves
+pub mod SmfReads
+pub mod SmfForms
 pub mod Worked
 pub mod Shortest
 pub mod Identical

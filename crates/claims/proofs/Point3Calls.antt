@@ -35,7 +35,7 @@ use Rattle.claims.proofs.Point3.{writes}
 use Rattle.claims.proofs.EventWrites.{event-wrote}
 
 -- what the answer's meaning says of the buffer at the end
-event-end : (r : WroteEvent) (end : List ℕ) → wroteEvent r end .written .buffer ≡ end
+pub event-end : (r : WroteEvent) (end : List ℕ) → wroteEvent r end .written .buffer ≡ end
 event-end (event.Next p) end = refl
 event-end (event.Refused n) end = refl
 

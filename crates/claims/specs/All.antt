@@ -5,6 +5,7 @@ use Rattle.claims.specs.Identical.{Identical}
 use Rattle.claims.specs.Point1.{Point1}
 use Rattle.claims.specs.Point2.{Point2}
 use Rattle.claims.specs.Point3.{Writes, Point3}
+use Rattle.claims.specs.SmfForms.{SmfForms}
 
 pub record All : Type 0 where
   -- document 01's worked bytes, P1 to P12
@@ -21,3 +22,5 @@ pub record All : Type 0 where
   -- the writer of lists, of whatever its promise permits; and of the definition, whatever a list may hold
   pub point-3 : Point3
   pub writes : Writes
+  -- point 2's clauses of SMF: what is in its form is read as it stands, and what is written is in its form
+  pub smf-forms : SmfForms

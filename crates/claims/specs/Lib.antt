@@ -11,3 +11,4 @@ pub mod Point2
 pub mod Point3
 pub mod All
 pub mod Entries
+pub mod SmfForms
