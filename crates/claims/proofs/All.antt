@@ -8,6 +8,7 @@ use Rattle.claims.proofs.Point2.{point-2}
 use Rattle.claims.proofs.Point3.{writes}
 use Rattle.claims.proofs.Point3Calls.{point-3}
 use Rattle.claims.proofs.SmfForms.{smf-forms}
+use Rattle.claims.proofs.Literals.{literals}
 
 pub all : All
 all =
@@ -21,4 +22,5 @@ all =
       point-3 = point-3;
       writes = writes;
       smf-forms = smf-forms;
+      literals = literals;
     }

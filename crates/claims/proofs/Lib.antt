@@ -6,6 +6,7 @@ pub mod EventWrites
 pub mod ListLeaves
 pub mod SmfReads
 pub mod SmfForms
+pub mod Literals
 pub mod Worked
 pub mod Shortest
 pub mod Identical

@@ -19,7 +19,7 @@ use Rattle.smf.specs.Write.{Written, over, put, write, numberBytes, payloadByte
 use Rattle.smf.specs.Place.{Span, payloadAt}
 use Rattle.smf.specs.Signed.{byteOfSigned}
 use Rattle.smf.specs.Smpte.{Time, isRate, toRate, codeOfRate, isTime, timeBytes}
-use Rattle.smf.specs.Wire.{taken, Raw, one, typed, encodeRaw, encodeRawEvent, runningAfter}
+use Rattle.smf.specs.Wire.{taken, Raw, typed, encodeRaw, encodeRawEvent, runningAfter}
 use Rattle.smf.specs.Kind as kind
 use Rattle.smf.specs.Kind.{Message, Meta, Kind, rawMessage, rawMeta, rawOf}
 use Rattle.smf.specs.Event.{Event, messageFits, metaFits, kindFits, metaLoad, kindLoad, metaMisnamed, kindMisnamed, isNamed, isLegal, bytesOf, mapEvent, legal, encodeEvent, eventBytes, EventWritten, eventWritten, writeEvent, event, mapKind, spanBefore, eventAt, readsAt}

@@ -12,3 +12,4 @@ pub mod Point3
 pub mod All
 pub mod Entries
 pub mod SmfForms
+pub mod Literals
