@@ -6,8 +6,8 @@ use denote.Ref.{now}
 use Rattle.smf.specs.Place.{numberAt, payloadAt}
 use Rattle.smf.specs.Write.{write, numberBytes, payloadBytes}
 use Rattle.smf.specs.MetaAt.{metaAt}
-use Rattle.smf.specs.Event.{eventAt, writeEvent}
-use Rattle.smf.specs.Lists.{listAt, heldAs, sizeList, writeList}
+use Rattle.smf.specs.Event.{eventAt, legal, writeEvent}
+use Rattle.smf.specs.Lists.{listAt, heldAs, recordsJudged, sizeList, writeList}
 use Rattle.base.specs.Rules.{rulesOf}
 use Rattle.number.specs.Varlen.{numberRead, writeLeft}
 use Rattle.number.specs.Payload.{sliceRead}
@@ -27,8 +27,8 @@ use Rattle.track.specs.List.{capacity, recordOf}
 use Rattle.track.specs.Read.{listRead}
 use Rattle.track.specs.declared.list.EventList.{EventList}
 use Rattle.track.specs.declared.read.ReadList.{ReadList}
-use Rattle.rows.specs.RowEvent.{rowRecord}
-use Rattle.rows.specs.RowLists.{rowRecords}
+use Rattle.rows.specs.RowEvent.{rowJudged}
+use Rattle.rows.specs.RowLists.{rowsJudged}
 use Rattle.write.specs.Wrote.{wroteEvent}
 use Rattle.write.specs.ListAnswers.{sizeSaid, wroteList}
 use Rattle.write.specs.declared.answer.WroteEvent.{WroteEvent}
@@ -76,7 +76,7 @@ read-list Claim law κs a r e told = law (now (a .0)) (a .1 .0) (a .1 .1 .0) (a 
 
 pub write-event : (Claim : TrackEvent → Running → Rules → List ℕ → List ℕ → ℕ → WroteEvent → List ℕ → Type 0)
     → ((event : TrackEvent) (running : Running) (rules : Rules) (bytes out : List ℕ) (at : ℕ) (r : WroteEvent) (end : List ℕ)
-    → wroteEvent r end ≡ writeEvent (rulesOf rules) (running .status) bytes (eventOf event) out at
+    → wroteEvent r end ≡ writeEvent (running .status) (legal (rulesOf rules) bytes (eventOf event)) out at
     → Claim event running rules bytes out at r end)
     → WriteEvent Claim
 write-event Claim law κs a r e told =
@@ -84,7 +84,7 @@ write-event Claim law κs a r e told =
 
 pub write-row : (Claim : List ℕ → Running → Rules → List ℕ → List ℕ → ℕ → WroteEvent → List ℕ → Type 0)
     → ((row : List ℕ) (running : Running) (rules : Rules) (bytes out : List ℕ) (at : ℕ) (r : WroteEvent) (end : List ℕ)
-    → wroteEvent r end ≡ writeEvent (rulesOf rules) (running .status) bytes (rowRecord row) out at
+    → wroteEvent r end ≡ writeEvent (running .status) (rowJudged (rulesOf rules) bytes row) out at
     → Claim row running rules bytes out at r end)
     → WriteRow Claim
 write-row Claim law κs a r e told =
@@ -92,14 +92,14 @@ write-row Claim law κs a r e told =
 
 pub list-length : (Claim : EventList → Running → Rules → List ℕ → length.ListLength → Type 0)
     → ((list : EventList) (running : Running) (rules : Rules) (bytes : List ℕ) (r : length.ListLength)
-    → sizeSaid r ≡ sizeList (rulesOf rules) capacity (running .status) bytes (map recordOf (list .records)) (list .count)
+    → sizeSaid r ≡ sizeList capacity (running .status) (recordsJudged (rulesOf rules) bytes (map recordOf (list .records))) (list .count)
     → Claim list running rules bytes r)
     → ListLength Claim
 list-length Claim law κs a r e told = law (a .0) (a .1 .0) (a .1 .1 .0) (now (a .1 .1 .1 .0)) r told
 
 pub write-list : (Claim : EventList → Running → Rules → List ℕ → List ℕ → WroteList → List ℕ → Type 0)
     → ((list : EventList) (running : Running) (rules : Rules) (bytes out : List ℕ) (r : WroteList) (end : List ℕ)
-    → wroteList r end ≡ writeList (rulesOf rules) capacity (running .status) bytes (map recordOf (list .records)) (list .count) out
+    → wroteList r end ≡ writeList capacity (running .status) (recordsJudged (rulesOf rules) bytes (map recordOf (list .records))) (list .count) out
     → Claim list running rules bytes out r end)
     → WriteList Claim
 write-list Claim law κs a r e told =
@@ -107,14 +107,14 @@ write-list Claim law κs a r e told =
 
 pub rows-length : (Claim : List ℕ → ℕ → Running → Rules → List ℕ → length.ListLength → Type 0)
     → ((rows : List ℕ) (count : ℕ) (running : Running) (rules : Rules) (bytes : List ℕ) (r : length.ListLength)
-    → sizeSaid r ≡ sizeList (rulesOf rules) capacity (running .status) bytes (rowRecords count rows) count
+    → sizeSaid r ≡ sizeList capacity (running .status) (rowsJudged (rulesOf rules) bytes count rows) count
     → Claim rows count running rules bytes r)
     → RowsLength Claim
 rows-length Claim law κs a r e told = law (now (a .0)) (a .1 .0) (a .1 .1 .0) (a .1 .1 .1 .0) (now (a .1 .1 .1 .1 .0)) r told
 
 pub write-rows : (Claim : List ℕ → ℕ → Running → Rules → List ℕ → List ℕ → WroteList → List ℕ → Type 0)
     → ((rows : List ℕ) (count : ℕ) (running : Running) (rules : Rules) (bytes out : List ℕ) (r : WroteList) (end : List ℕ)
-    → wroteList r end ≡ writeList (rulesOf rules) capacity (running .status) bytes (rowRecords count rows) count out
+    → wroteList r end ≡ writeList capacity (running .status) (rowsJudged (rulesOf rules) bytes count rows) count out
     → Claim rows count running rules bytes out r end)
     → WriteRows Claim
 write-rows Claim law κs a r e told =

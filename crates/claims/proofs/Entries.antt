@@ -8,7 +8,7 @@ use Rattle.smf.specs.Event.{Same}
 use Rattle.smf.specs.Lists.{SameList}
 use Rattle.track.specs.List.{capacity}
 use Rattle.rows.specs.RowEvent.{calledRow}
-use Rattle.rows.specs.RowLists.{rowRecords}
+use Rattle.rows.specs.RowLists.{calledRows}
 use Rattle.same.specs.OfRows.{rowsAsked, listsAsked}
 use Rattle.rows.proofs.IdenticalLists.{rowsLeft-identical}
 use Rattle.event.proofs.IdenticalRunning.{step-identical}
@@ -86,7 +86,7 @@ sameness : Sameness
 sameness =
     record {
       event-same = λ κs a y z d e p q. handed-identical (rowsAsked (now (a .0)) (now (a .1 .1 .0))) (Same (now (a .1 .0)) (calledRow (now (a .0))) (now (a .1 .1 .1 .0)) (calledRow (now (a .1 .1 .0)))) y z (now (a .1 .1 .1 .1 .0)) (now (d .1 .1 .1 .1 .0)) (now (e .1 .1 .1 .1 .0)) p q;
-      list-same = λ κs a y z d e p q. handed-identical (listsAsked capacity (now (a .0)) (a .1 .0) (now (a .1 .1 .1 .0)) (a .1 .1 .1 .1 .0)) (SameList (now (a .1 .1 .0)) (rowRecords (a .1 .0) (now (a .0))) (a .1 .0) (now (a .1 .1 .1 .1 .1 .0)) (rowRecords (a .1 .1 .1 .1 .0) (now (a .1 .1 .1 .0))) (a .1 .1 .1 .1 .0)) y z (now (a .1 .1 .1 .1 .1 .1 .0)) (now (d .1 .1 .1 .1 .1 .1 .0)) (now (e .1 .1 .1 .1 .1 .1 .0)) p q;
+      list-same = λ κs a y z d e p q. handed-identical (listsAsked capacity (now (a .0)) (a .1 .0) (now (a .1 .1 .1 .0)) (a .1 .1 .1 .1 .0)) (SameList (now (a .1 .1 .0)) (calledRows (a .1 .0) (now (a .0))) (a .1 .0) (now (a .1 .1 .1 .1 .1 .0)) (calledRows (a .1 .1 .1 .1 .0) (now (a .1 .1 .1 .0))) (a .1 .1 .1 .1 .0)) y z (now (a .1 .1 .1 .1 .1 .1 .0)) (now (d .1 .1 .1 .1 .1 .1 .0)) (now (e .1 .1 .1 .1 .1 .1 .0)) p q;
     }
 
 sheets : Sheets

@@ -23,7 +23,7 @@ use Rattle.write.proofs.Identical.{lengthSaid-injective, wroteEvent-injective, 
 use Rattle.rows.specs.Rows.{rowNumbers}
 use Rattle.rows.specs.declared.Row.{Row}
 use Rattle.rows.specs.RowEvent.{calledRow}
-use Rattle.rows.specs.RowLists.{rowRecords}
+use Rattle.rows.specs.RowLists.{calledRows}
 use Rattle.rows.proofs.Identical.{rowAnswer-injective}
 use Rattle.same.specs.OfRows.{rowsAsked, listsAsked}
 use Rattle.same.proofs.Identical.{tells-identical, says-identical}
@@ -165,7 +165,7 @@ lists =
       same-event = λ κs a y z d e p q. tells-identical _ y z p q;
       same-list = λ κs a y z d e p q. tells-identical _ y z p q;
       same-rows = λ κs a y z d e p q. says-identical (rowsAsked (a .0) (a .1 .1 .0)) (Same (now (a .1 .0)) (calledRow (a .0)) (now (a .1 .1 .1 .0)) (calledRow (a .1 .1 .0))) y z p q;
-      same-row-lists = λ κs a y z d e p q. says-identical (listsAsked capacity (now (a .0)) (a .1 .0) (now (a .1 .1 .1 .0)) (a .1 .1 .1 .1 .0)) (SameList (now (a .1 .1 .0)) (rowRecords (a .1 .0) (now (a .0))) (a .1 .0) (now (a .1 .1 .1 .1 .1 .0)) (rowRecords (a .1 .1 .1 .1 .0) (now (a .1 .1 .1 .0))) (a .1 .1 .1 .1 .0)) y z p q;
+      same-row-lists = λ κs a y z d e p q. says-identical (listsAsked capacity (now (a .0)) (a .1 .0) (now (a .1 .1 .1 .0)) (a .1 .1 .1 .1 .0)) (SameList (now (a .1 .1 .0)) (calledRows (a .1 .0) (now (a .0))) (a .1 .0) (now (a .1 .1 .1 .1 .1 .0)) (calledRows (a .1 .1 .1 .1 .0) (now (a .1 .1 .1 .0))) (a .1 .1 .1 .1 .0)) y z p q;
     }
 
 pub identical : Identical

@@ -8,8 +8,8 @@ use denote.Ref.{now}
 use Rattle.smf.specs.Answer.{Answer}
 use Rattle.smf.specs.Write as smf
 use Rattle.smf.specs.Write.{numberBytes, payloadBytes}
-use Rattle.smf.specs.Event.{EventWritten}
-use Rattle.smf.specs.Lists.{ListAt, listAt, heldAs, ListSize, ListWritten}
+use Rattle.smf.specs.Event.{legal, EventWritten}
+use Rattle.smf.specs.Lists.{ListAt, listAt, heldAs, recordsJudged, ListSize, ListWritten}
 use Rattle.base.specs.Refusal.{numberOf}
 use Rattle.base.specs.Rules.{rulesOf}
 use Rattle.base.specs.declared.Rules.{Rules}
@@ -18,8 +18,8 @@ use Rattle.base.specs.declared.Refusal.{Refusal}
 use Rattle.base.specs.declared.Refusal.the-variants as refusal
 use Rattle.header.specs.Timing.{timingOf}
 use Rattle.event.specs.Event.{eventOf}
-use Rattle.rows.specs.RowEvent.{rowRecord}
-use Rattle.rows.specs.RowLists.{rowRecords}
+use Rattle.rows.specs.RowEvent.{rowJudged}
+use Rattle.rows.specs.RowLists.{rowsJudged}
 use Rattle.track.specs.List.{capacity, recordOf}
 use Rattle.track.specs.Read.{listRead}
 use Rattle.track.specs.declared.read.ReadList.{ReadList}
@@ -28,11 +28,11 @@ use Rattle.claims.specs.Stands.{EventOrLeft, ListStands}
 use Rattle.claims.specs.Leaves.{EventLeaves, SizeLeaves, ListLeaves}
 use Rattle.claims.specs.Point1.{Numbered, Point1}
 use Rattle.claims.proofs.Calls as calls
-use Rattle.claims.proofs.Refusals.{by-more, number-at-by, payload-at-by, meta-at-by, width-by, format-by, rate-by, timing-by, timing-bytes-by, time-by, time-of-by, time-bytes-by, seconds-by, position-by, bend-by, bend-float-by, number-bytes-by, payload-bytes-by, write-keeps, event-length-by}
+use Rattle.claims.proofs.Refusals.{by-more, number-at-by, payload-at-by, meta-at-by, width-by, format-by, rate-by, timing-by, timing-bytes-by, time-by, time-of-by, time-bytes-by, seconds-by, position-by, bend-by, bend-float-by, number-bytes-by, payload-bytes-by, write-keeps, legal-by, row-by, event-length-by}
 use Rattle.claims.proofs.ReadLeaves.{event-or-left}
 use Rattle.claims.proofs.Stands.{list-stands}
 use Rattle.claims.proofs.EventWrites.{event-leaves}
-use Rattle.claims.proofs.ListLeaves.{size-leaves, list-leaves}
+use Rattle.claims.proofs.ListLeaves.{records-by, rows-by, size-leaves, list-leaves}
 
 table : (n : Refusal) → inTable (numberOf n) ≡ true
 table refusal.RunningStatus = refl
@@ -85,8 +85,8 @@ numbered =
       bend-as-int = λ κs a z e told. of (18 ∷ []) told (bend-by _);
       bend-as-f32 = λ κs a z e told. of (18 ∷ []) (told .0) (bend-float-by binary32 _);
       bend-as-f64 = λ κs a z e told. of (18 ∷ []) (told .0) (bend-float-by binary64 _);
-      event-length = λ κs a z e told. of ofLength told (event-length-by _ _ _ _);
-      row-length = λ κs a z e told. of ofLength told (event-length-by _ _ _ _);
+      event-length = λ κs a z e told. of ofLength told (event-length-by _ _ (legal-by _ _ _));
+      row-length = λ κs a z e told. of ofLength told (event-length-by _ _ (row-by _ _ _));
     }
 
 list-said : (raw : List ℕ) (at : ℕ) (running : Running) (rules : Rules) (r : ReadList) → listRead r ≡ heldAs capacity (listAt (rulesOf rules) capacity (running .status) raw at)
@@ -114,20 +114,20 @@ point-1 =
       event-list-read = calls.read-list _ list-said;
       write-event = calls.write-event _ (λ event running rules bytes out at r end told.
           subst (λ (w : EventWritten). EventLeaves (running .status) at out w (w .written .answer)) (sym told)
-          (event-leaves (rulesOf rules) (running .status) bytes (eventOf event) out at));
+          (event-leaves (running .status) (legal (rulesOf rules) bytes (eventOf event)) (legal-by (rulesOf rules) bytes (eventOf event)) out at));
       write-row = calls.write-row _ (λ row running rules bytes out at r end told.
           subst (λ (w : EventWritten). EventLeaves (running .status) at out w (w .written .answer)) (sym told)
-          (event-leaves (rulesOf rules) (running .status) bytes (rowRecord row) out at));
+          (event-leaves (running .status) (rowJudged (rulesOf rules) bytes row) (row-by (rulesOf rules) bytes row) out at));
       list-length = calls.list-length _ (λ list running rules bytes r told.
-          subst (λ (w : ListSize). SizeLeaves (rulesOf rules) bytes (map recordOf (list .records)) (list .count) (running .status) w (w .answer)) (sym told)
-          (size-leaves (rulesOf rules) bytes (map recordOf (list .records)) (list .count) capacity (running .status)));
+          subst (λ (w : ListSize). SizeLeaves (recordsJudged (rulesOf rules) bytes (map recordOf (list .records))) (list .count) (running .status) w (w .answer)) (sym told)
+          (size-leaves (recordsJudged (rulesOf rules) bytes (map recordOf (list .records))) (records-by (rulesOf rules) bytes (map recordOf (list .records))) (list .count) capacity (running .status)));
       write-list = calls.write-list _ (λ list running rules bytes out r end told.
-          subst (λ (w : ListWritten). ListLeaves (rulesOf rules) bytes (map recordOf (list .records)) (list .count) (running .status) out w (w .answer)) (sym told)
-          (list-leaves (rulesOf rules) bytes (map recordOf (list .records)) (list .count) capacity (running .status) out));
+          subst (λ (w : ListWritten). ListLeaves (recordsJudged (rulesOf rules) bytes (map recordOf (list .records))) (list .count) (running .status) out w (w .answer)) (sym told)
+          (list-leaves (recordsJudged (rulesOf rules) bytes (map recordOf (list .records))) (records-by (rulesOf rules) bytes (map recordOf (list .records))) (list .count) capacity (running .status) out));
       rows-length = calls.rows-length _ (λ rows count running rules bytes r told.
-          subst (λ (w : ListSize). SizeLeaves (rulesOf rules) bytes (rowRecords count rows) count (running .status) w (w .answer)) (sym told)
-          (size-leaves (rulesOf rules) bytes (rowRecords count rows) count capacity (running .status)));
+          subst (λ (w : ListSize). SizeLeaves (rowsJudged (rulesOf rules) bytes count rows) count (running .status) w (w .answer)) (sym told)
+          (size-leaves (rowsJudged (rulesOf rules) bytes count rows) (rows-by (rulesOf rules) bytes count rows) count capacity (running .status)));
       write-rows = calls.write-rows _ (λ rows count running rules bytes out r end told.
-          subst (λ (w : ListWritten). ListLeaves (rulesOf rules) bytes (rowRecords count rows) count (running .status) out w (w .answer)) (sym told)
-          (list-leaves (rulesOf rules) bytes (rowRecords count rows) count capacity (running .status) out));
+          subst (λ (w : ListWritten). ListLeaves (rowsJudged (rulesOf rules) bytes count rows) count (running .status) out w (w .answer)) (sym told)
+          (list-leaves (rowsJudged (rulesOf rules) bytes count rows) (rows-by (rulesOf rules) bytes count rows) count capacity (running .status) out));
     }

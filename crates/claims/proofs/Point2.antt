@@ -6,7 +6,7 @@ use Prim.Native.Nat.{ℕ, _+_, _-_, _≤_}
 use native.Mathlib.Omega.{arith}
 use lib.ListN.{length, drop, getD, length-append}
 use borrow.Author.Tests.{le-leb}
-use Rattle.smf.specs.Answer.{gives, Rules}
+use Rattle.smf.specs.Answer.{Answer, gives, Rules}
 use Rattle.smf.specs.Running.{isRunning}
 use Rattle.smf.specs.Number.{isNumber, valueFrom, numberFrom, readNumber, numeral}
 use Rattle.smf.specs.Payload.{payloadAfter, readPayload}
@@ -14,12 +14,11 @@ use Rattle.smf.specs.Place.{NumberAt, Span, numberAt}
 use Rattle.smf.specs.Write.{put}
 use Rattle.smf.specs.Wire.{dataLength, readOne, readTwo, readChannel, readMeta, readStatus, readBody, afterDelta, readRaw}
 use Rattle.smf.specs.Kind.{messageTwo, isText, calledMeta, called, noteOn, tempo, Kind, midi, meta}
-use Rattle.smf.specs.Event.{Event, event, mapMeta, mapKind, mapEvent, named, nameRaw, readEvent, legal, encodeEvent, eventBytes, writeEvent, Same}
+use Rattle.smf.specs.Event.{Event, event, mapMeta, mapKind, mapEvent, named, nameRaw, readEvent, legal, encodeEvent, writeJudged, writeEvent, Same}
 use Rattle.smf.specs.Lists.{goOn, readMore, readList, ListAt, listAt, filler, ended, ListHeld, holding, heldAs}
 use Rattle.smf.proofs.Answer.{said-of}
 use Rattle.smf.proofs.Number.{smf-read, smf-number}
 use Rattle.smf.proofs.Place.{Reached, NumberReached, number-reached}
-use Rattle.smf.proofs.Event.{legal-exactly}
 use Rattle.base.specs.Rules.{rulesOf}
 use Rattle.number.specs.Varlen.{numberRead}
 use Rattle.base.specs.declared.Rules as number
@@ -115,18 +114,16 @@ one raw at running rules r told q z none =
     (count-is r (struck ∷ []) 4 0x90 h, calls.read-list (OtherEvent raw r) (other raw r (first-is r struck [] 4 0x90 h)))
 
 -- a legal event that has room
-legal-written : (rules : Rules) (running : ℕ) (bytes : List ℕ) (e : Event Span) (out : List ℕ) (at : ℕ) (l : Event (List ℕ)) → isRunning running ≡ true → legal rules bytes e ≡ gives l
-    → at + length (encodeEvent running l) ≤ length out → writeEvent rules running bytes e out at ≡ ownWritten running l out at
-unfolding writeEvent eventBytes put mapEvent
-legal-written rules running bytes e out at l is h room =
-    let x = legal-exactly rules bytes e l .0 h in
-    rw (is, h, le-leb _ _ room, x .2)
+legal-written : (running : ℕ) (j : Answer (Event (List ℕ))) (out : List ℕ) (at : ℕ) (l : Event (List ℕ)) → isRunning running ≡ true → j ≡ gives l
+    → at + length (encodeEvent running l) ≤ length out → writeEvent running j out at ≡ ownWritten running l out at
+unfolding writeEvent writeJudged put
+legal-written running j out at l is h room = rw (is, h, le-leb _ _ room)
 
 legal-said : (event : TrackEvent) (running : Running) (rules : number.Rules) (bytes out : List ℕ) (at : ℕ) (r : WroteEvent) (end : List ℕ)
-    → wroteEvent r end ≡ writeEvent (rulesOf rules) (running .status) bytes (eventOf event) out at
+    → wroteEvent r end ≡ writeEvent (running .status) (legal (rulesOf rules) bytes (eventOf event)) out at
     → (e : Event (List ℕ)) → isRunning (running .status) ≡ true → legal (rulesOf rules) bytes (eventOf event) ≡ gives e → at + length (encodeEvent (running .status) e) ≤ length out
     → wroteEvent r end ≡ ownWritten (running .status) e out at
-legal-said event running rules bytes out at r end told e is h room = told ∙ legal-written (rulesOf rules) (running .status) bytes (eventOf event) out at e is h room
+legal-said event running rules bytes out at r end told e is h room = told ∙ legal-written (running .status) (legal (rulesOf rules) bytes (eventOf event)) out at e is h room
 
 -- Numbers
 

@@ -7,12 +7,15 @@ use native.Mathlib.Omega.{arith}
 use lib.ListN.{length, take, replicate, length-map}
 use lib.Seq.{take-append-seam, length-take-le}
 use Rattle.smf.specs.Answer.{Rules, strictOf, gives}
+use Rattle.smf.specs.Running.{isRunning}
 use Rattle.smf.specs.Place.{Span}
-use Rattle.smf.specs.Event.{Event, mapEvent, bytesOf, Same, encodeEvent, EventWritten, writeEvent, isLegal}
-use Rattle.smf.specs.Lists.{listed, ListAt, listAt, filler, holding, heldAs, ListHeld, wrote, ListWritten, writeList, counted}
+use Rattle.smf.specs.Write.{over}
+use Rattle.smf.specs.Event.{Event, mapEvent, bytesOf, Same, isLegal, legal, encodeEvent, EventWritten, writeEvent}
+use Rattle.smf.specs.Lists.{recordsJudged, listed, ListAt, listAt, filler, holding, heldAs, ListHeld, wrote, ListWritten, writeList, counted}
 use Rattle.smf.proofs.Event as smf
 use Rattle.smf.proofs.Legal.{legal-strictly}
 use Rattle.smf.proofs.Lists.{list-ended}
+use Rattle.smf.proofs.ListLegality.{given-itself, records-themselves}
 use Rattle.smf.proofs.ListPlaces.{list-reached}
 use Rattle.smf.proofs.ListWrites.{write-wrote, front-own}
 use Rattle.base.specs.Rules.{rulesOf}
@@ -23,7 +26,7 @@ use Rattle.event.specs.declared.TrackEvent.{TrackEvent}
 use Rattle.track.specs.List.{capacity, recordOf}
 use Rattle.track.specs.Read.{listRead}
 use Rattle.track.specs.declared.list.EventList.{EventList}
-use Rattle.rows.specs.RowLists.{rowRecords}
+use Rattle.rows.specs.RowLists.{rowsJudged}
 use Rattle.write.specs.Wrote.{wroteEvent}
 use Rattle.write.specs.ListAnswers.{wroteList}
 use Rattle.write.specs.declared.answer.WroteEvent.{WroteEvent}
@@ -31,7 +34,8 @@ use Rattle.write.specs.declared.answer.WroteEvent.the-variants as event
 use Rattle.claims.specs.Point3.{Accepted, ListWriteSays, ReadBack, ReadAgain, NeverBegins, Point3}
 use Rattle.claims.specs.Calls.{EventListRead, WriteEvent}
 use Rattle.claims.proofs.Calls as calls
-use Rattle.claims.proofs.Point3.{writes}
+use Rattle.claims.proofs.Point3.{rows-lawful, list-write-says, writes}
+use Rattle.claims.proofs.Refusals.{legal-by}
 use Rattle.claims.proofs.EventWrites.{event-wrote}
 
 -- what the answer's meaning says of the buffer at the end
@@ -41,9 +45,9 @@ event-end (event.Refused n) end = refl
 
 -- a list that was written, read again
 module _ (rules : Rules) (running : ℕ) (bytes : List ℕ) (records : List (Event Span)) (count : ℕ) (out : List ℕ) (n : ℕ)
-    (e : writeList rules capacity running bytes records count out .answer ≡ wrote n) where
+    (e : writeList capacity running (recordsJudged rules bytes records) count out .answer ≡ wrote n) where
   abbrev w : ListWritten
-  w = writeList rules capacity running bytes records count out
+  w = writeList capacity running (recordsJudged rules bytes records) count out
 
   abbrev raw : List ℕ
   raw = take n (w .buffer)
@@ -54,19 +58,19 @@ module _ (rules : Rules) (running : ℕ) (bytes : List ℕ) (records : List (Eve
   abbrev itself : Event Span → Event (List ℕ)
   itself = mapEvent (bytesOf raw)
 
-  accepted : Accepted rules capacity running bytes records count out w n
+  accepted : Accepted rules capacity running (recordsJudged rules bytes records) count out w n
   accepted = writes rules capacity running bytes records count out .accepted n e
 
   size : length raw ≡ n
-  size = length-take-le n (w .buffer) (omega (arith, accepted .long, write-wrote rules capacity running bytes records count out n e .room))
+  size = length-take-le n (w .buffer) (omega (arith, accepted .long, write-wrote capacity running (recordsJudged rules bytes records) count out n e .room))
 
   -- the events of the records that were read are those that were written
   events : map itself (read .events) ≡ listed bytes records count
-  events = list-reached (strictOf rules) capacity running raw 0 .events ∙ accepted .reads .events
+  events = list-reached (strictOf rules) capacity running raw 0 .events ∙ accepted .reads .events ∙ records-themselves rules bytes count records (accepted .events) (accepted .legal)
 
   as-many : length records ≡ capacity → length (read .events) ≡ count
   as-many full =
-      let few = write-wrote rules capacity running bytes records count out n e .few in
+      let few = write-wrote capacity running (recordsJudged rules bytes records) count out n e .few in
       let a : length (read .events) ≡ length (listed bytes records count) = sym (length-map (read .events) itself) ∙ ap length events in
       let b : length (listed bytes records count) ≡ length (take count records) = length-map (take count records) (mapEvent (bytesOf bytes)) in
       a ∙ b ∙ length-take-le count records (omega (arith, few))
@@ -88,42 +92,44 @@ module _ (rules : Rules) (running : ℕ) (bytes : List ℕ) (records : List (Eve
 
 -- two events that were written at the front of their buffers
 module _ (running : ℕ) (rules rules′ : Rules) (bytes bytes′ : List ℕ) (e e′ : Event Span) (out out′ : List ℕ) (n n′ : ℕ)
-    (h : writeEvent rules running bytes e out 0 .written .answer ≡ gives n) (h′ : writeEvent rules′ running bytes′ e′ out′ 0 .written .answer ≡ gives n′) (alike : strictOf rules′ ≡ strictOf rules) where
-  front : (rules : Rules) (bytes : List ℕ) (e : Event Span) (out : List ℕ) (n : ℕ) → writeEvent rules running bytes e out 0 .written .answer ≡ gives n
-      → take n (writeEvent rules running bytes e out 0 .written .buffer) ≡ encodeEvent running (mapEvent (bytesOf bytes) e)
-  front rules bytes e out n h =
-      let a = event-wrote rules running bytes e out 0 n h in
-      let own = encodeEvent running (mapEvent (bytesOf bytes) e) in
+    (h : writeEvent running (legal rules bytes e) out 0 .written .answer ≡ gives n) (h′ : writeEvent running (legal rules′ bytes′ e′) out′ 0 .written .answer ≡ gives n′) (alike : strictOf rules′ ≡ strictOf rules) where
+  -- an accepted event, and its own bytes in front
+  wrote-front : (rules : Rules) (bytes : List ℕ) (e : Event Span) (out : List ℕ) (n : ℕ) → writeEvent running (legal rules bytes e) out 0 .written .answer ≡ gives n
+      → (isRunning running ≡ true) × (isLegal rules (mapEvent (bytesOf bytes) e) ≡ true) × (take n (writeEvent running (legal rules bytes e) out 0 .written .buffer) ≡ encodeEvent running (mapEvent (bytesOf bytes) e))
+  wrote-front rules bytes e out n h =
+      let a = event-wrote running (legal rules bytes e) (legal-by rules bytes e) out 0 n h in
+      let g = given-itself rules bytes e (a .event) (a .legal) in
+      let own = encodeEvent running (a .event) in
       let z : n ≡ length own = omega (arith, a .size) in
-      rw (a .own, z) (front-own own out)
+      (a .valid, subst (λ (x : Event (List ℕ)). isLegal rules x ≡ true) (g .0) (g .1), ap (take n) (a .own) ∙ ap (λ (k : ℕ). take k (over own out 0)) z ∙ front-own own out ∙ ap (encodeEvent running) (g .0))
 
-  never-begins : (more : List ℕ) → take n (writeEvent rules running bytes e out 0 .written .buffer) ≡ take n′ (writeEvent rules′ running bytes′ e′ out′ 0 .written .buffer) ++ more
+  never-begins : (more : List ℕ) → take n (writeEvent running (legal rules bytes e) out 0 .written .buffer) ≡ take n′ (writeEvent running (legal rules′ bytes′ e′) out′ 0 .written .buffer) ++ more
       → Same bytes e bytes′ e′
   never-begins more q =
-      let a = event-wrote rules running bytes e out 0 n h in
-      let a′ = event-wrote rules′ running bytes′ e′ out′ 0 n′ h′ in
-      smf.prefix-free (strictOf rules) running (mapEvent (bytesOf bytes) e) (mapEvent (bytesOf bytes′) e′) more (a .valid) (legal-strictly rules _ ∙ a .legal)
-      (subst (λ (r : Rules). isLegal r (mapEvent (bytesOf bytes′) e′) ≡ true) alike (legal-strictly rules′ _ ∙ a′ .legal))
-      (sym (front rules bytes e out n h) ∙ q ∙ ap (λ (l : List ℕ). l ++ more) (front rules′ bytes′ e′ out′ n′ h′))
+      let a = wrote-front rules bytes e out n h in
+      let a′ = wrote-front rules′ bytes′ e′ out′ n′ h′ in
+      smf.prefix-free (strictOf rules) running (mapEvent (bytesOf bytes) e) (mapEvent (bytesOf bytes′) e′) more (a .0) (legal-strictly rules _ ∙ a .1)
+      (subst (λ (r : Rules). isLegal r (mapEvent (bytesOf bytes′) e′) ≡ true) alike (legal-strictly rules′ _ ∙ a′ .1))
+      (sym (a .2) ∙ q ∙ ap (λ (l : List ℕ). l ++ more) (a′ .2))
 
 back : (rules rules′ : Rules) (running : ℕ) (bytes : List ℕ) (records : List (Event Span)) (count : ℕ) (out : List ℕ) (n at : ℕ) (w : ListWritten) (raw : List ℕ) (held : ListHeld)
-    → w ≡ writeList rules capacity running bytes records count out → w .answer ≡ wrote n → length records ≡ capacity
+    → w ≡ writeList capacity running (recordsJudged rules bytes records) count out → w .answer ≡ wrote n → length records ≡ capacity
     → held ≡ heldAs capacity (listAt rules′ capacity running raw at) → raw ≡ take n (w .buffer) → at ≡ 0 → rules′ ≡ strictOf rules
     → ReadBack raw held n (w .running) bytes records count
 back rules rules′ running bytes records count out n at w raw held told e full told′ q z strict =
     rw (told′, q, z, strict, told) (read-back rules running bytes records count out n (rw told at e) full)
 
 begins : (running running′ : ℕ) (rules rules′ : Rules) (bytes bytes′ : List ℕ) (e e′ : Event Span) (out out′ : List ℕ) (at at′ n n′ : ℕ) (w w′ : EventWritten)
-    → running′ ≡ running → strictOf rules′ ≡ strictOf rules → w ≡ writeEvent rules running bytes e out at → at ≡ 0 → w .written .answer ≡ gives n
-    → w′ ≡ writeEvent rules′ running′ bytes′ e′ out′ at′ → at′ ≡ 0 → w′ .written .answer ≡ gives n′
+    → running′ ≡ running → strictOf rules′ ≡ strictOf rules → w ≡ writeEvent running (legal rules bytes e) out at → at ≡ 0 → w .written .answer ≡ gives n
+    → w′ ≡ writeEvent running′ (legal rules′ bytes′ e′) out′ at′ → at′ ≡ 0 → w′ .written .answer ≡ gives n′
     → (more : List ℕ) → take n (w .written .buffer) ≡ take n′ (w′ .written .buffer) ++ more → Same bytes e bytes′ e′
 begins running running′ rules rules′ bytes bytes′ e e′ out out′ at at′ n n′ w w′ same alike told z h told′ z′ h′ more q =
-    let h₀ : writeEvent rules running bytes e out 0 .written .answer ≡ gives n = rw (told, z) at h in
-    let h₁ : writeEvent rules′ running bytes′ e′ out′ 0 .written .answer ≡ gives n′ = rw (told′, z′, same) at h′ in
+    let h₀ : writeEvent running (legal rules bytes e) out 0 .written .answer ≡ gives n = rw (told, z) at h in
+    let h₁ : writeEvent running (legal rules′ bytes′ e′) out′ 0 .written .answer ≡ gives n′ = rw (told′, z′, same) at h′ in
     never-begins running rules rules′ bytes bytes′ e e′ out out′ n n′ h₀ h₁ alike more (rw (told, z, told′, z′, same) at q)
 
 again : (list : EventList) (running : Running) (rules : number.Rules) (bytes out : List ℕ) (w : ListWritten)
-    → w ≡ writeList (rulesOf rules) capacity (running .status) bytes (map recordOf (list .records)) (list .count) out
+    → w ≡ writeList capacity (running .status) (recordsJudged (rulesOf rules) bytes (map recordOf (list .records))) (list .count) out
     → (n : ℕ) → w .answer ≡ wrote n → length (list .records) ≡ capacity → EventListRead (ReadAgain list running rules bytes w n)
 again list running rules bytes out w told n e full =
     calls.read-list (ReadAgain list running rules bytes w n) (λ raw at running′ rules′ r told′ q z same strict.
@@ -132,7 +138,7 @@ again list running rules bytes out w told n e full =
     told e full′ (rw same at told′) q z strict)
 
 never : (e : TrackEvent) (running : Running) (rules : number.Rules) (bytes out : List ℕ) (at : ℕ) (r : WroteEvent) (end : List ℕ)
-    → wroteEvent r end ≡ writeEvent (rulesOf rules) (running .status) bytes (eventOf e) out at
+    → wroteEvent r end ≡ writeEvent (running .status) (legal (rulesOf rules) bytes (eventOf e)) out at
     → (n : ℕ) → at ≡ 0 → wroteEvent r end .written .answer ≡ gives n → WriteEvent (NeverBegins e running rules bytes (take n end))
 never e running rules bytes out at r end told n z h =
     calls.write-event (NeverBegins e running rules bytes (take n end)) (λ e′ running′ rules′ bytes′ out′ at′ r′ end′ told′ n′ more z′ same alike h′ q.
@@ -144,11 +150,11 @@ pub point-3 : Point3
 point-3 =
     record {
       writes = calls.write-list _ (λ list running rules bytes out r end told.
-          subst (ListWriteSays (rulesOf rules) capacity (running .status) bytes (map recordOf (list .records)) (list .count) out) (sym told)
+          subst (ListWriteSays (rulesOf rules) capacity (running .status) (recordsJudged (rulesOf rules) bytes (map recordOf (list .records))) (list .count) out) (sym told)
           (writes (rulesOf rules) capacity (running .status) bytes (map recordOf (list .records)) (list .count) out));
       writes-rows = calls.write-rows _ (λ rows count running rules bytes out r end told.
-          subst (ListWriteSays (rulesOf rules) capacity (running .status) bytes (rowRecords count rows) count out) (sym told)
-          (writes (rulesOf rules) capacity (running .status) bytes (rowRecords count rows) count out));
+          subst (ListWriteSays (rulesOf rules) capacity (running .status) (rowsJudged (rulesOf rules) bytes count rows) count out) (sym told)
+          (list-write-says (rulesOf rules) capacity (running .status) (rowsJudged (rulesOf rules) bytes count rows) (rows-lawful (rulesOf rules) bytes count rows) count out));
       reads-back = calls.write-list _ (λ list running rules bytes out r end told. again list running rules bytes out (wroteList r end) told);
       prefix-free = calls.write-event _ never;
     }

@@ -1,6 +1,6 @@
 -- By which numbers of the table each definition refuses.
 use mathlib.Core.Path.{_≡_, refl, sym, subst}
-use mathlib.Core.Bool.{Bool, true, false, true≢false, _&&_}
+use mathlib.Core.Bool.{Bool, true, false, true≢false, _&&_, not}
 use mathlib.Core.List.{List, [], _∷_}
 use Prim.Native.Nat.{ℕ, zero, suc, _+_, _-_, _^_}
 use lib.Dec.{ltb, leb, eqb}
@@ -22,7 +22,8 @@ use Rattle.smf.specs.Kind.{isText, narrow, calledMeta}
 use Rattle.smf.specs.MetaAt.{readMetaMessage, metaAt}
 use Rattle.smf.specs.Event.{Event, kindFits, kindLoad, inside, kindMisnamed, noSpan, spanLength, legal}
 use Rattle.smf.proofs.Answer.{by-test, pick-both, pick-test, both}
-use Rattle.write.specs.Raw.{rawLegal}
+use Rattle.rows.specs.RowEvent.{isRow, calledRow, eventOfRow, rowJudged}
+use Rattle.write.specs.Raw.{rawJudged}
 use Rattle.write.specs.Size.{eventSize, sizeEvent}
 use Rattle.claims.specs.Table.{inTable, among, OneOf, By, Keeps, ofNumber, ofPayload, ofMeta, ofLegality, ofLength}
 
@@ -258,22 +259,21 @@ module _ (rules : Rules) (bytes : List ℕ) where
       pick-both (By ofLegality) (ltb (e .delta) (2 ^ 28) && kindFits rules (e .kind))
       (pick-both (By ofLegality) (inside bytes (kindLoad noSpan (e .kind)))
       (pick-both (By ofLegality) (ltb (spanLength (kindLoad noSpan (e .kind))) (2 ^ 28))
-      (pick-both (By ofLegality) (kindMisnamed rules spanLength (e .kind)) refl tt)
+      (pick-both (By ofLegality) (not (kindMisnamed rules spanLength (e .kind))) tt refl)
       refl)
       refl)
       refl
 
-  raw-legal-by : (e : Event Span) → By ofLegality (rawLegal rules bytes e)
-  unfolding rawLegal
-  raw-legal-by e = then-by ofLegality (legal rules bytes e) _ (legal-by e) (λ l. tt)
+  -- a row that is no event's is refused by 18
+  pub row-by : (r : List ℕ) → By ofLegality (rowJudged rules bytes r)
+  unfolding rowJudged eventOfRow
+  row-by r =
+      then-by ofLegality (pick (isRow r) (gives (calledRow r)) (refuses 18)) _ (pick-both (By ofLegality) (isRow r) tt refl) legal-by
 
-  event-size-by : (running : ℕ) (e : Event Span) → By ofLegality (eventSize rules running bytes e)
-  unfolding eventSize
-  event-size-by running e = then-by ofLegality (rawLegal rules bytes e) _ (raw-legal-by e) (λ raw. tt)
-
-  pub event-length-by : (running : ℕ) (e : Event Span) → By ofLength (sizeEvent rules running bytes e)
-  unfolding sizeEvent
-  event-length-by running e =
-      pick-both (By ofLength) (isRunning running)
-      (by-more ofLength ofLegality (eventSize rules running bytes e) refl (event-size-by running e))
-      refl
+-- an event as it was judged, measured
+pub event-length-by : (running : ℕ) (j : Answer (Event (List ℕ))) → By ofLegality j → By ofLength (sizeEvent running j)
+unfolding sizeEvent eventSize rawJudged
+event-length-by running j h =
+    pick-both (By ofLength) (isRunning running)
+    (by-more ofLength ofLegality (eventSize running j) refl (then-by ofLegality (rawJudged j) _ (then-by ofLegality j _ h (λ e. tt)) (λ raw. tt)))
+    refl

@@ -7,7 +7,7 @@ use native.Mathlib.Omega.{arith}
 use lib.ListN.{length, drop}
 use Rattle.smf.specs.Answer.{Rules}
 use Rattle.smf.specs.Running.{isRunning}
-use Rattle.smf.specs.Place.{Sited}
+use Rattle.smf.proofs.Place.{Sited}
 use Rattle.smf.specs.Event.{EventAt, ReadAt, readsAt, refusedAt, eventAt}
 use Rattle.smf.specs.Lists.{Stop, ended, full, stopped, ListAt, listPlaced, readMore, listAt}
 use Rattle.smf.proofs.Answer.{by-test, by-lt}

@@ -2,13 +2,12 @@
 -- as given, and every output byte as it came; an accepted one writes no byte beyond.
 use mathlib.Core.Path.{_≡_}
 use mathlib.Core.Bool.{true}
-use mathlib.Core.List.{List, [], _∷_}
+use mathlib.Core.List.{List, [], _∷_, map}
 use Prim.Native.Nat.{ℕ, _≤_, _<_}
-use lib.ListN.{length, take, drop, getD}
-use Rattle.smf.specs.Answer.{Answer, gives, refuses, Rules}
-use Rattle.smf.specs.Place.{Span}
-use Rattle.smf.specs.Event.{Event, legal, EventWritten}
-use Rattle.smf.specs.Lists.{RecordsLegal, filler, ListAnswer, wrote, refusesAt, ListSize, ListWritten}
+use lib.ListN.{length, take, drop}
+use Rattle.smf.specs.Answer.{Answer, gives, refuses}
+use Rattle.smf.specs.Event.{Event, EventWritten}
+use Rattle.smf.specs.Lists.{ListAnswer, wrote, refusesAt, ListSize, ListWritten}
 use Rattle.claims.specs.Table.{among, OneOf, ofLegality, ofWriting, ofListLength, ofListWriting}
 
 -- an event refused by a number, from a running status and over a buffer
@@ -29,12 +28,12 @@ abbrev pub EventLeaves : ℕ → ℕ → List ℕ → EventWritten → Answer �
 EventLeaves running at out w (gives next) = WriteAccepted at out w next
 EventLeaves running at out w (refuses n) = WriteRefused running out w n
 
-module _ (rules : Rules) (bytes : List ℕ) (records : List (Event Span)) (count : ℕ) where
-  -- the counted records before an index are legal, and the one there is refused by a number
+module _ (judged : List (Answer (Event (List ℕ)))) (count : ℕ) where
+  -- the counted events before an index are legal, and what stands there is refused by a number
   pub record FirstIllegal (n i : ℕ) : Type 0 where
     pub counted : i < count
-    pub before : RecordsLegal rules bytes (take i records)
-    pub there : legal rules bytes (getD records i filler) ≡ refuses n
+    pub before : (es : List (Event (List ℕ))) × (take i judged ≡ map gives es)
+    pub there : (later : List (Answer (Event (List ℕ)))) × (drop i judged ≡ refuses n ∷ later)
 
   -- document 01: the index of the first illegal event, 0 for 1, 20, 21
   pub record RefusedAt (numbers : List ℕ) (n i : ℕ) : Type 0 where

@@ -8,7 +8,7 @@ use contract.Lifetimes.{Lfts}
 use borrow.Fn.Kind.{PK, RK}
 use borrow.Fn.Kinds.{Out, resT}
 use Rattle.smf.specs.Answer.{Answer}
-use Rattle.smf.specs.Lists.{ListAt, heldAs}
+use Rattle.smf.specs.Lists.{ListAt, heldAs, recordsJudged}
 use Rattle.base.specs.Refusal.{numberOf}
 use Rattle.base.specs.Restricted.{triedU2, triedU4, triedU7, triedU14, triedU15, triedU24}
 use Rattle.base.specs.Rules.{rulesOf}
@@ -28,7 +28,7 @@ use Rattle.meta.specs.Meta.{metaRead}
 use Rattle.event.specs.Event.{eventOf, eventRead}
 use Rattle.track.specs.List.{capacity, recordOf}
 use Rattle.track.specs.Read.{listRead}
-use Rattle.rows.specs.RowLists.{rowRecords}
+use Rattle.rows.specs.RowLists.{rowsJudged}
 use Rattle.write.specs.Size.{lengthSaid}
 use Rattle.write.specs.Wrote.{wroteEvent}
 use Rattle.write.specs.ListAnswers.{sizeSaid, wroteList}
@@ -93,10 +93,10 @@ pub record Point1 : Type 0 where
   pub write-row : WriteRow (λ row running rules bytes out at r end. EventLeaves (running .status) at out (wroteEvent r end) (wroteEvent r end .written .answer))
   -- a list, of records and of rows, measured and written: a refusal gives its number and index, and leaves every byte and the running status
   pub list-length : ListLength (λ list running rules bytes r.
-      SizeLeaves (rulesOf rules) bytes (map recordOf (list .records)) (list .count) (running .status) (sizeSaid r) (sizeSaid r .answer))
+      SizeLeaves (recordsJudged (rulesOf rules) bytes (map recordOf (list .records))) (list .count) (running .status) (sizeSaid r) (sizeSaid r .answer))
   pub write-list : WriteList (λ list running rules bytes out r end.
-      ListLeaves (rulesOf rules) bytes (map recordOf (list .records)) (list .count) (running .status) out (wroteList r end) (wroteList r end .answer))
+      ListLeaves (recordsJudged (rulesOf rules) bytes (map recordOf (list .records))) (list .count) (running .status) out (wroteList r end) (wroteList r end .answer))
   pub rows-length : RowsLength (λ rows count running rules bytes r.
-      SizeLeaves (rulesOf rules) bytes (rowRecords count rows) count (running .status) (sizeSaid r) (sizeSaid r .answer))
+      SizeLeaves (rowsJudged (rulesOf rules) bytes count rows) count (running .status) (sizeSaid r) (sizeSaid r .answer))
   pub write-rows : WriteRows (λ rows count running rules bytes out r end.
-      ListLeaves (rulesOf rules) bytes (rowRecords count rows) count (running .status) out (wroteList r end) (wroteList r end .answer))
+      ListLeaves (rowsJudged (rulesOf rules) bytes count rows) count (running .status) out (wroteList r end) (wroteList r end .answer))

@@ -10,8 +10,8 @@ use Rattle.smf.specs.Running.{isRunning}
 use Rattle.smf.specs.Number.{isNumber, valueFrom}
 use Rattle.smf.specs.Place.{NumberAt, Span}
 use Rattle.smf.specs.Write.{over}
-use Rattle.smf.specs.Event.{Event, eventAt, legal, encodeEvent, EventWritten, writeEvent, Same}
-use Rattle.smf.specs.Lists.{listAt, filler, heldAs, ended, eventAfter}
+use Rattle.smf.specs.Event.{Event, eventAt, legal, encodeEvent, eventAfter, EventWritten, writeEvent, Same}
+use Rattle.smf.specs.Lists.{listAt, filler, heldAs, ended}
 use Rattle.base.specs.Rules.{rulesOf}
 use Rattle.number.specs.Varlen.{numberRead}
 use Rattle.base.specs.declared.Rules.{Rules}
@@ -20,7 +20,7 @@ use Rattle.event.specs.Event.{eventOf, eventRead}
 use Rattle.track.specs.List.{capacity}
 use Rattle.track.specs.Read.{listRead}
 use Rattle.track.specs.declared.read.ReadList.{ReadList}
-use Rattle.rows.specs.RowEvent.{rowRecord}
+use Rattle.rows.specs.RowEvent.{rowJudged}
 use Rattle.write.specs.Wrote.{wroteEvent}
 use Rattle.claims.specs.Calls.{ReadU7, TrackEventRead, EventListRead, WriteEvent, WriteRow}
 
@@ -68,10 +68,10 @@ pub record Point2 : Type 0 where
   pub reads-lists : EventListRead (λ raw at running rules r. listRead r ≡ heldAs capacity (listAt (rulesOf rules) capacity (running .status) raw at))
   -- one event, written at a place
   pub writes : WriteEvent (λ event running rules bytes out at r end.
-      wroteEvent r end ≡ writeEvent (rulesOf rules) (running .status) bytes (eventOf event) out at)
+      wroteEvent r end ≡ writeEvent (running .status) (legal (rulesOf rules) bytes (eventOf event)) out at)
   -- one row's event, written at a place
   pub writes-rows : WriteRow (λ row running rules bytes out at r end.
-      wroteEvent r end ≡ writeEvent (rulesOf rules) (running .status) bytes (rowRecord row) out at)
+      wroteEvent r end ≡ writeEvent (running .status) (rowJudged (rulesOf rules) bytes row) out at)
   -- a legal event, from a running status and with room: its shortest bytes, no other byte changed, and the running status after it
   pub writes-legal : WriteEvent (λ event running rules bytes out at r end. (e : Event (List ℕ))
       → isRunning (running .status) ≡ true → legal (rulesOf rules) bytes (eventOf event) ≡ gives e → at + length (encodeEvent (running .status) e) ≤ length out

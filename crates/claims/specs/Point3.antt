@@ -6,10 +6,10 @@ use mathlib.Core.List.{List, _++_, map}
 use mathlib.Core.Logic.{_↔_}
 use Prim.Native.Nat.{ℕ, _≤_}
 use lib.ListN.{length, take, drop}
-use Rattle.smf.specs.Answer.{gives, Rules, strictOf}
+use Rattle.smf.specs.Answer.{Answer, gives, Rules, strictOf}
 use Rattle.smf.specs.Place.{Span}
 use Rattle.smf.specs.Event.{Event, Same}
-use Rattle.smf.specs.Lists.{readList, ReadsAs, RecordsLegal, listed, ended, ListHeld, wrote, refusesAt, ListWritten, writeList, SameList}
+use Rattle.smf.specs.Lists.{readList, ReadsAs, recordsJudged, ended, ListHeld, wrote, refusesAt, ListWritten, writeList, SameList}
 use Rattle.base.specs.Rules.{rulesOf}
 use Rattle.base.specs.declared.Rules as number
 use Rattle.base.specs.declared.Running.{Running}
@@ -19,30 +19,33 @@ use Rattle.track.specs.List.{capacity, recordOf}
 use Rattle.track.specs.Read.{listRead}
 use Rattle.track.specs.declared.list.EventList.{EventList}
 use Rattle.track.specs.declared.read.ReadList.{ReadList}
-use Rattle.rows.specs.RowLists.{rowRecords}
+use Rattle.rows.specs.RowLists.{rowsJudged}
 use Rattle.write.specs.Wrote.{wroteEvent}
 use Rattle.write.specs.ListAnswers.{wroteList}
 use Rattle.write.specs.declared.answer.WroteEvent.{WroteEvent}
 use Rattle.claims.specs.Calls.{EventListRead, WriteEvent, WriteList, WriteRows}
 
-module _ (rules : Rules) (most running : ℕ) (bytes : List ℕ) (records : List (Event Span)) (count : ℕ) where
-  -- document 01: bytes that read strictly as the counted records, over their payload bytes
-  abbrev pub ReadsStrictly : List ℕ → Type 0
-  ReadsStrictly s = ReadsAs (strictOf rules) most running s (listed bytes records count)
+module _ (rules : Rules) (most running : ℕ) where
+  -- document 01: bytes that read strictly as these events
+  abbrev pub ReadsStrictly : List (Event (List ℕ)) → List ℕ → Type 0
+  ReadsStrictly es s = ReadsAs (strictOf rules) most running s es
 
-  module _ (buffer : List ℕ) where
-    -- no more records than may be, each legal, and some bytes that fit the buffer and read strictly as them
+  module _ (judged : List (Answer (Event (List ℕ)))) (count : ℕ) (buffer : List ℕ) where
+    -- no more events than may be, each legal, and some bytes that fit the buffer and read strictly as them
     abbrev pub Fits : Type 0
-    Fits = (count ≤ most) × RecordsLegal rules bytes (take count records) × ((s : List ℕ) × (length s ≤ length buffer) × ReadsStrictly s)
+    Fits = (count ≤ most) × ((es : List (Event (List ℕ))) × (take count judged ≡ map gives es) × ((s : List ℕ) × (length s ≤ length buffer) × ReadsStrictly es s))
 
     -- document 01: an accepted write gives its length and the running status after it, and writes no byte beyond
     pub record Accepted (w : ListWritten) (n : ℕ) : Type 0 where
-      -- what is written reads strictly as the same events
-      pub reads : ReadsStrictly (take n (w .buffer))
+      -- the events that count are legal
+      pub events : List (Event (List ℕ))
+      pub legal : take count judged ≡ map gives events
+      -- what is written reads strictly as them
+      pub reads : ReadsStrictly events (take n (w .buffer))
       -- and ends in the same running status
       pub after : readList (strictOf rules) most running (take n (w .buffer)) .running ≡ w .running
       -- no bytes that read strictly as them are fewer
-      pub shortest : (s : List ℕ) → ReadsStrictly s → n ≤ length s
+      pub shortest : (s : List ℕ) → ReadsStrictly events s → n ≤ length s
       -- no byte beyond changes
       pub long : length (w .buffer) ≡ length buffer
       pub beyond : drop n (w .buffer) ≡ drop n buffer
@@ -59,7 +62,7 @@ module _ (rules : Rules) (most running : ℕ) (bytes : List ℕ) (records : List
 abbrev pub Writes : Type 0
 Writes =
     (rules : Rules) (most running : ℕ) (bytes : List ℕ) (records : List (Event Span)) (count : ℕ) (buffer : List ℕ)
-    → ListWriteSays rules most running bytes records count buffer (writeList rules most running bytes records count buffer)
+    → ListWriteSays rules most running (recordsJudged rules bytes records) count buffer (writeList most running (recordsJudged rules bytes records) count buffer)
 
 -- what a list was read as: to the end of so many bytes, to a running status, and the same as other records over their payload bytes
 pub record ReadBack (raw : List ℕ) (r : ListHeld) (n after : ℕ) (bytes : List ℕ) (records : List (Event Span)) (count : ℕ) : Type 0 where
@@ -85,10 +88,10 @@ module _ (e : TrackEvent) (running : Running) (rules : number.Rules) (bytes own 
 pub record Point3 : Type 0 where
   -- `write_list`, of whatever its promise permits: a list of at most as many events as may be
   pub writes : WriteList (λ list running rules bytes out r end.
-      ListWriteSays (rulesOf rules) capacity (running .status) bytes (map recordOf (list .records)) (list .count) out (wroteList r end))
-  -- `write_rows` in the same way, of the records that its rows are
+      ListWriteSays (rulesOf rules) capacity (running .status) (recordsJudged (rulesOf rules) bytes (map recordOf (list .records))) (list .count) out (wroteList r end))
+  -- `write_rows` in the same way, of its rows as they are judged
   pub writes-rows : WriteRows (λ rows count running rules bytes out r end.
-      ListWriteSays (rulesOf rules) capacity (running .status) bytes (rowRecords count rows) count out (wroteList r end))
+      ListWriteSays (rulesOf rules) capacity (running .status) (rowsJudged (rulesOf rules) bytes count rows) count out (wroteList r end))
   -- what `write_list` writes, `EventList::read` reads strictly as the same list, all bytes used, and ends in the same running status; the array of
   -- every list has capacity records
   pub reads-back : WriteList (λ list running rules bytes out r end.

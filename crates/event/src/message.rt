@@ -2,7 +2,7 @@
 // events asks for no other status.
 ghost use mathlib.Core.Path.{_≡_};
 ghost use Prim.Native.Nat.{_≤_, _<_};
-ghost use Rattle.smf.specs.Kind.{messageWith};
+ghost use Rattle.smf.proofs.Reading.{messageWith};
 ghost use Rattle.midi.specs.Midi.{messageOf};
 use base::u7;
 use base::u14;

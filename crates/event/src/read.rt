@@ -3,7 +3,7 @@ ghost use mathlib.Core.Path.{_≡_};
 ghost use mathlib.Core.Bool.{true};
 ghost use Prim.Native.Nat.{_-_, _≤_, _<_};
 ghost use lib.ListN.{length, drop};
-ghost use Rattle.smf.specs.Place.{Sited};
+ghost use Rattle.smf.proofs.Place.{Sited};
 ghost use Rattle.smf.specs.Running.{isRunning};
 ghost use Rattle.smf.specs.Wire.{withPayload, system, readChannel, readMeta, readStatus, readBody};
 ghost use Rattle.smf.specs.Payload.{readPayload};

@@ -5,7 +5,7 @@ use Rattle.smf.specs.Answer.{Answer, Rules}
 use Rattle.smf.specs.Event.{ReadAt, readsAt, refusedAt, EventWritten, writeEvent}
 use Rattle.write.specs.Size.{Size, sizeEvent}
 use Rattle.rows.specs.Rows.{eventRow}
-use Rattle.rows.specs.RowEvent.{rowRecord}
+use Rattle.rows.specs.RowEvent.{rowJudged}
 
 -- the answer: 0 where an event was read, else the refusal's number
 abbrev pub readAnswered : ReadAt → ℕ
@@ -22,15 +22,10 @@ abbrev pub readUsed : ReadAt → ℕ
 readUsed (readsAt e) = e .used
 readUsed (refusedAt n used running) = used
 
--- the running status after the event, or that the refusal leaves
-abbrev pub readRunning : ReadAt → ℕ
-readRunning (readsAt e) = e .running
-readRunning (refusedAt n used running) = running
-
 -- how long the bytes of a row's event are, and the running status after it; document 01: 1, then 18, 19, 22, 23
 abbrev pub rowSize : Rules → ℕ → List ℕ → List ℕ → Answer Size
-rowSize rules running payload row = sizeEvent rules running payload (rowRecord row)
+rowSize rules running payload row = sizeEvent running (rowJudged rules payload row)
 
 -- what writing a row's event leaves
 abbrev pub rowWritten : Rules → ℕ → List ℕ → List ℕ → List ℕ → ℕ → EventWritten
-rowWritten rules running payload row buffer at = writeEvent rules running payload (rowRecord row) buffer at
+rowWritten rules running payload row buffer at = writeEvent running (rowJudged rules payload row) buffer at

@@ -6,7 +6,7 @@ use Rattle.smf.specs.Write.{Written, put}
 use Rattle.smf.specs.Lists.{Stop, ended, full, stopped, ListAt, listAt, ListAnswer, wrote, refusesAt, ListSize, sizeList, ListWritten, writeList}
 use Rattle.track.specs.List.{capacity}
 use Rattle.rows.specs.Sheet.{sheetOf}
-use Rattle.rows.specs.RowLists.{rowRecords}
+use Rattle.rows.specs.RowLists.{rowsJudged}
 use Rattle.loader.specs.Entry.{fromBits}
 
 -- Reading
@@ -37,11 +37,11 @@ readAnswer l cells = readOr (stopNumber (l .stop)) (sheetPut l cells .answer)
 
 -- how long the bytes of so many rows' events are; document 01: 1, 21, then the first illegal event. A row that is no event's, or that is not all there, is one
 abbrev pub sheetSize : Rules → ℕ → List ℕ → List ℕ → ℕ → ListSize
-sheetSize rules running payload cells count = sizeList rules capacity running payload (rowRecords count cells) count
+sheetSize rules running payload cells count = sizeList capacity running (rowsJudged rules payload count cells) count
 
 -- what writing so many rows' events leaves; document 01: in that order, then 20 where there is no room
 abbrev pub sheetWritten : Rules → ℕ → List ℕ → List ℕ → ℕ → List ℕ → ListWritten
-sheetWritten rules running payload cells count buffer = writeList rules capacity running payload (rowRecords count cells) count buffer
+sheetWritten rules running payload cells count buffer = writeList capacity running (rowsJudged rules payload count cells) count buffer
 
 -- the answer: 0 where it is accepted, else the refusal's number
 abbrev pub numberAnswered : ListAnswer → ℕ

@@ -13,14 +13,14 @@ abbrev pub yes : Bool → ℕ
 yes told = pick told 1 0
 
 -- what an answer is in plain numbers: 0 where something was told, else the refusal's
-abbrev pub answered : Sameness → ℕ
-answered (sameness.Told told) = 0
-answered (sameness.Refused n) = numberOf n
+abbrev pub samenessAnswered : Sameness → ℕ
+samenessAnswered (sameness.Told told) = 0
+samenessAnswered (sameness.Refused n) = numberOf n
 
 -- and what it leaves behind the pointer, where this number was before
-abbrev pub left : Sameness → ℕ → ℕ
-left (sameness.Told told) before = yes told
-left (sameness.Refused n) before = before
+abbrev pub samenessLeft : Sameness → ℕ → ℕ
+samenessLeft (sameness.Told told) before = yes told
+samenessLeft (sameness.Refused n) before = before
 
 -- a number tells whether a rule holds: 1 where it does, 0 where it does not
 abbrev pub Told : ℕ → Type 0 → Type 0

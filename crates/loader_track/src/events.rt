@@ -2,9 +2,10 @@
 ghost use mathlib.Core.Path.{_≡_};
 ghost use Prim.Native.Nat.{ℕ};
 ghost use Rattle.smf.specs.Event.{eventAt};
+ghost use Rattle.event.specs.Lent.{readRunning};
 ghost use Rattle.write.specs.Size.{Size};
 ghost use Rattle.loader.specs.Entry.{fromBits, answered, leaves};
-ghost use Rattle.loader_track.specs.Events.{readAnswered, readRow, readUsed, readRunning, rowSize, rowWritten};
+ghost use Rattle.loader_track.specs.Events.{readAnswered, readRow, readUsed, rowSize, rowWritten};
 use base::Running;
 use event::TrackEvent;
 use event::read::ReadEvent;

@@ -5,9 +5,9 @@ ghost use Rattle.smf.specs.Event.{Same};
 ghost use Rattle.smf.specs.Lists.{SameList};
 ghost use Rattle.track.specs.List.{capacity};
 ghost use Rattle.rows.specs.RowEvent.{calledRow};
-ghost use Rattle.rows.specs.RowLists.{rowRecords};
+ghost use Rattle.rows.specs.RowLists.{calledRows};
 ghost use Rattle.same.specs.OfRows.{rowsAsked, listsAsked};
-ghost use Rattle.loader_track.specs.Same.{yes, answered, left, Handed};
+ghost use Rattle.loader_track.specs.Same.{yes, samenessAnswered, samenessLeft, Handed};
 use rows::WIDTH;
 use same::of_rows::Sameness;
 use same::of_rows::same_row_lists;
@@ -25,8 +25,8 @@ fn said(told: bool) -> u8
 
 // What was told is handed out, and the answer is 0; a refusal is answered, and leaves what was lent as it came.
 fn hand_out(answer: Sameness, same: &mut u8) -> u8
-    ensures answer { λ r. ⌜ r ≡ answered answer ⌝ }
-    ensures same { λ r. ⌜ now (same .exit) ≡ left answer (now (same .entry)) ⌝ }
+    ensures answer { λ r. ⌜ r ≡ samenessAnswered answer ⌝ }
+    ensures same { λ r. ⌜ now (same .exit) ≡ samenessLeft answer (now (same .entry)) ⌝ }
 {
     match answer {
         Sameness::Told(told) => {
@@ -63,7 +63,7 @@ pub extern "C" fn apk_list_same(
     bytes_b: &[u8],
     same: &mut u8,
 ) -> u8
-    ensures { λ r. ⌜ Handed r (now (same .entry)) (now (same .exit)) (listsAsked capacity (now («rows_a» .entry)) «count_a» (now («rows_b» .entry)) «count_b») (SameList (now («bytes_a» .entry)) (rowRecords «count_a» (now («rows_a» .entry))) «count_a» (now («bytes_b» .entry)) (rowRecords «count_b» (now («rows_b» .entry))) «count_b») ⌝ }
+    ensures { λ r. ⌜ Handed r (now (same .entry)) (now (same .exit)) (listsAsked capacity (now («rows_a» .entry)) «count_a» (now («rows_b» .entry)) «count_b») (SameList (now («bytes_a» .entry)) (calledRows «count_a» (now («rows_a» .entry))) «count_a» (now («bytes_b» .entry)) (calledRows «count_b» (now («rows_b» .entry))) «count_b») ⌝ }
 {
     let answer = same_row_lists(rows_a, count_a, bytes_a, rows_b, count_b, bytes_b);
     hand_out(answer, same)

@@ -11,8 +11,8 @@ use lib.Seq.{drop-cons}
 use borrow.Author.Tests.{lt-ltb, le-ltb}
 use Rattle.smf.specs.Answer.{Answer, gives, refuses, Rules}
 use Rattle.smf.specs.Number.{joined, Numeral, numeral, numberFrom, readNumber}
-use Rattle.smf.specs.Place.{Sited, NumberAt, numberAt}
-use Rattle.smf.proofs.Place.{site-begun, site-next, number-placed, number-refused}
+use Rattle.smf.specs.Place.{NumberAt, numberAt}
+use Rattle.smf.proofs.Place.{Sited, site-begun, site-next, number-placed, number-refused}
 
 -- the bits leave room for k more groups of seven under 28 bits
 abbrev Room : ℕ → ℕ → Type 0

@@ -6,7 +6,7 @@ use Rattle.smf.specs.Answer.{Answer, gives, refuses}
 use Rattle.smf.proofs.Answer.{injective}
 use Rattle.base.proofs.RefusalNumbers.{refusalOf, number-back}
 use Rattle.track.proofs.Identical.{backStop, sameStop}
-use Rattle.rows.specs.Read.{SheetAt, SheetRead, rowsRead, readAnswered, rowsLeft}
+use Rattle.rows.specs.Read.{SheetAt, SheetRead, rowsRead, sheetAnswered, rowsLeft}
 use Rattle.rows.specs.declared.lists.RowsRead.{RowsRead}
 use Rattle.rows.specs.declared.lists.ReadRows.{ReadRows}
 use Rattle.rows.specs.declared.lists.ReadRows.the-variants as read
@@ -22,10 +22,10 @@ backRows : Answer SheetAt → ReadRows
 backRows (gives s) = read.Rows (backRead s)
 backRows (refuses n) = read.Refused (refusalOf n)
 
-sameRows : (r : ReadRows) → backRows (readAnswered r) ≡ r
+sameRows : (r : ReadRows) → backRows (sheetAnswered r) ≡ r
 unfolding backRows
 sameRows (read.Rows r) = ap read.Rows (sameRead r)
 sameRows (read.Refused n) = ap read.Refused (number-back n)
 
 pub rowsLeft-identical : {x y : ReadRows} {b d : List ℕ} → rowsLeft x b ≡ rowsLeft y d → (x ≡ y) × (b ≡ d)
-rowsLeft-identical e = (injective readAnswered backRows sameRows (ap (λ (s : SheetRead). s .answer) e), ap (λ (s : SheetRead). s .cells) e)
+rowsLeft-identical e = (injective sheetAnswered backRows sameRows (ap (λ (s : SheetRead). s .answer) e), ap (λ (s : SheetRead). s .cells) e)

@@ -11,7 +11,7 @@ use Rattle.smf.specs.Place.{Span}
 use Rattle.smf.specs.Event.{Event}
 use Rattle.smf.proofs.Answer.{given}
 use Rattle.rows.specs.Rows.{width}
-use Rattle.rows.specs.RowEvent.{fieldsFit, cell, isRow, calledRow, eventOfRow, rowRecord}
+use Rattle.rows.specs.RowEvent.{fieldsFit, cell, isRow, calledRow, eventOfRow}
 
 module _ (r : List ℕ) (l : length r ≡ width) where
   -- its delta is no number of 32 bits
@@ -47,7 +47,3 @@ module _ (r : List ℕ) where
     by : (t : Bool) → pick t (gives (calledRow r)) (refuses 18) ≡ refuses n → (t ≡ false) × (n ≡ 18)
     by true p = let z : _≡_ {A = ℕ} 0 1 = cc in absurd (omega arith)
     by false p = (refl, cc)
-
-  pub record-is : isRow r ≡ true → rowRecord r ≡ calledRow r
-  unfolding rowRecord
-  record-is h = rw h

@@ -1,4 +1,4 @@
--- What was made a row comes back from it, for every event of the code; and what is no event's row is refused.
+-- What was made a row comes back from it, for every event of the code.
 use mathlib.Core.Path.{_≡_, refl}
 use mathlib.Core.Bool.{Bool, true, false, not}
 use mathlib.Core.List.{List, _∷_}
@@ -10,12 +10,12 @@ use lib.Signed.{mag}
 use mir.Val.{Val}
 use denote.Laws.{Is}
 use borrow.Author.Tests.{lt-ltb}
-use Rattle.smf.specs.Answer.{pick, gives, refuses, Rules}
+use Rattle.smf.specs.Answer.{pick, gives}
 use Rattle.smf.specs.Signed.{byteOfSigned}
 use Rattle.smf.specs.Smpte.{isRate}
 use Rattle.smf.specs.Kind as kind
 use Rattle.smf.specs.Kind.{isText}
-use Rattle.smf.specs.Event.{event, legal}
+use Rattle.smf.specs.Event.{event}
 use Rattle.smf.proofs.Signed.{signed-back}
 use Rattle.header.specs.Fps.{rateOf}
 use Rattle.header.specs.declared.Fps.{Fps}
@@ -38,7 +38,7 @@ use Rattle.event.proofs.TrackEventKind as kind-type
 use Rattle.event.specs.declared.TrackEvent.{TrackEvent}
 use Rattle.event.proofs.TrackEvent as event-type
 use Rattle.rows.specs.Rows.{midiRow, metaRow, kindRow, eventRow}
-use Rattle.rows.specs.RowEvent.{areBytes, timeFits, fieldsFit, isRow, rowNumber, rowMeta, rowMessage, rowKind, calledRow, eventOfRow, noRecord}
+use Rattle.rows.specs.RowEvent.{areBytes, timeFits, fieldsFit, isRow, rowNumber, rowMeta, rowMessage, rowKind, calledRow, eventOfRow}
 
 -- each rate is one
 rate : (f : Fps) → isRate (rateOf f) ≡ true
@@ -108,8 +108,3 @@ module _ (delta : ℕ) (d : ltb delta (2 ^ 32) ≡ true) where
 -- `Is` holds of the values that the code can have: each number within its integer
 pub kept : (e : TrackEvent) (vs : List Val) → Is event-type.the-row e vs → eventOfRow (eventRow (eventOf e)) ≡ gives (eventOf e)
 kept e vs p = kind-kept (e .delta .0) (lt-ltb (e .delta .0) (2 ^ 32) (p .1 .1 .0 .1 .1 .0 .1)) (e .kind) _ (p .1 .1 .1 .0)
-
--- document 01: 18 comes first of what is illegal of an event
-pub none-legal : (rules : Rules) (bytes : List ℕ) → legal rules bytes noRecord ≡ refuses 18
-unfolding legal
-none-legal rules bytes = refl

@@ -8,10 +8,10 @@ use lib.Seq.{take-at, drop-at}
 use Rattle.smf.specs.Place.{Span}
 use Rattle.smf.specs.Event.{Event}
 use Rattle.rows.specs.Rows.{width, eventRow}
-use Rattle.rows.specs.RowEvent.{isRow, rowRecord}
-use Rattle.rows.specs.RowLists.{rowRecords, areRows}
+use Rattle.rows.specs.RowEvent.{isRow, calledRow}
+use Rattle.rows.specs.RowLists.{calledRows, areRows}
 use Rattle.rows.proofs.Width.{row-length}
-use Rattle.rows.proofs.IsRow.{is-event, record-is}
+use Rattle.rows.proofs.IsRow.{is-event}
 use Rattle.rows.specs.Sheet.{sheetOf}
 use Rattle.rows.specs.Kept.{AllKept, Kept}
 
@@ -29,13 +29,13 @@ rows [] behind k = refl
 rows (e ∷ es) behind k =
     ap₂ (λ (s t : Bool). s && t) (ap isRow (first e es behind) ∙ is-event (eventRow e) (k .0) .0) (ap (areRows (length es)) (rest e es behind) ∙ rows es behind (k .1))
 
-back : (es : List (Event Span)) (behind : List ℕ) → AllKept es → rowRecords (length es) (sheetOf es ++ behind) ≡ es
-unfolding sheetOf rowRecords
+back : (es : List (Event Span)) (behind : List ℕ) → AllKept es → calledRows (length es) (sheetOf es ++ behind) ≡ es
+unfolding sheetOf calledRows
 back [] behind k = refl
 back (e ∷ es) behind k =
     let own = is-event (eventRow e) (k .0) in
-    ap₂ (λ (x : Event Span) (xs : List (Event Span)). x ∷ xs) (ap rowRecord (first e es behind) ∙ record-is (eventRow e) (own .0) ∙ own .1)
-    (ap (rowRecords (length es)) (rest e es behind) ∙ back es behind (k .1))
+    ap₂ (λ (x : Event Span) (xs : List (Event Span)). x ∷ xs) (ap calledRow (first e es behind) ∙ own .1)
+    (ap (calledRows (length es)) (rest e es behind) ∙ back es behind (k .1))
 
 pub kept : Kept
 kept = record { are-rows = rows; reads-back = back }

@@ -9,7 +9,7 @@ use Rattle.smf.specs.Place.{Span}
 use Rattle.smf.specs.Event.{Event}
 use Rattle.rows.specs.Rows.{eventRow}
 use Rattle.rows.specs.RowEvent.{eventOfRow}
-use Rattle.rows.specs.RowLists.{rowRecords, areRows}
+use Rattle.rows.specs.RowLists.{calledRows, areRows}
 use Rattle.rows.specs.Sheet.{sheetOf}
 
 -- each event comes back from its row; `Rattle.rows.proofs.Kept` shows it of every event of the code
@@ -20,4 +20,4 @@ AllKept (e ∷ es) = (eventOfRow (eventRow e) ≡ gives e) × AllKept es
 -- the rows of a list, with anything behind them, are events', and the records of that list alone
 pub record Kept : Type 0 where
   pub are-rows : (es : List (Event Span)) (behind : List ℕ) → AllKept es → areRows (length es) (sheetOf es ++ behind) ≡ true
-  pub reads-back : (es : List (Event Span)) (behind : List ℕ) → AllKept es → rowRecords (length es) (sheetOf es ++ behind) ≡ es
+  pub reads-back : (es : List (Event Span)) (behind : List ℕ) → AllKept es → calledRows (length es) (sheetOf es ++ behind) ≡ es

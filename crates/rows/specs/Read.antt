@@ -38,10 +38,10 @@ readSheet l cells = sheetRead l (put (sheetOf (l .events)) cells 0)
 abbrev pub rowsRead : RowsRead → SheetAt
 rowsRead r = record { count = r .count; stop = stopOf (r .stop); place = r .place; running = r .running .status }
 
-abbrev pub readAnswered : ReadRows → Answer SheetAt
-readAnswered (read.Rows r) = gives (rowsRead r)
-readAnswered (read.Refused n) = refuses (numberOf n)
+abbrev pub sheetAnswered : ReadRows → Answer SheetAt
+sheetAnswered (read.Rows r) = gives (rowsRead r)
+sheetAnswered (read.Refused n) = refuses (numberOf n)
 
 -- with what the cells hold at the end
 abbrev pub rowsLeft : ReadRows → List ℕ → SheetRead
-rowsLeft r cells = record { cells = cells; answer = readAnswered r }
+rowsLeft r cells = record { cells = cells; answer = sheetAnswered r }

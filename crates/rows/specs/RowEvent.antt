@@ -5,13 +5,13 @@ use mathlib.Core.List.{List}
 use Prim.Native.Nat.{ℕ, _-_, _^_}
 use lib.Dec.{ltb, leb, eqb}
 use lib.ListN.{length, getD}
-use Rattle.smf.specs.Answer.{pick, Answer, gives, refuses}
+use Rattle.smf.specs.Answer.{pick, Answer, gives, refuses, andThen, Rules}
 use Rattle.smf.specs.Place.{Span}
 use Rattle.smf.specs.Signed.{signedByte}
 use Rattle.smf.specs.Smpte.{time, isRate}
 use Rattle.smf.specs.Kind as kind
 use Rattle.smf.specs.Kind.{isText}
-use Rattle.smf.specs.Event.{Event, event}
+use Rattle.smf.specs.Event.{Event, event, legal}
 use Rattle.rows.specs.Rows.{width}
 
 -- What fits
@@ -109,10 +109,6 @@ calledRow r =
 unfoldable pub eventOfRow : List ℕ → Answer (Event Span)
 eventOfRow r = pick (isRow r) (gives (calledRow r)) (refuses 18)
 
--- the record that writers take a row for: cells that are no event's row count as an `EndOfTrack` whose delta is above its
--- width, so that they are refused by 18, at their place in a list
-abbrev pub noRecord : Event Span
-noRecord = event (2 ^ 28) (kind.meta kind.endOfTrack)
-
-unfoldable pub rowRecord : List ℕ → Event Span
-rowRecord r = pick (isRow r) (calledRow r) noRecord
+-- what writers make of a row: the event that it is over given payload bytes, or the number that forbids it
+unfoldable pub rowJudged : Rules → List ℕ → List ℕ → Answer (Event (List ℕ))
+rowJudged rules bytes r = andThen (eventOfRow r) (legal rules bytes)

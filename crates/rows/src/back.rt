@@ -32,12 +32,14 @@ use midi::MidiMessage;
 use midi::PitchBend;
 use number::u28;
 
+// What making an event of a row answers.
 pub enum RowEvent {
     Event(TrackEvent),
-    Refused(Refusal),
+    Refused(Refusal), // 18: the row is no event's
 }
 
-fn are_bytes(a: u64, b: u64, c: u64, d: u64, e: u64) -> bool
+// Whether five numbers are bytes; 0 stands for one that is not used.
+pub fn are_bytes(a: u64, b: u64, c: u64, d: u64, e: u64) -> bool
     ensures { λ r. ⌜ r ≡ areBytes a b c d e ⌝ }
 {
     if 256 <= a {

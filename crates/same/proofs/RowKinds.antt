@@ -17,7 +17,7 @@ use Rattle.smf.specs.Place.{Span}
 use Rattle.smf.specs.Signed.{signedByte}
 use Rattle.smf.specs.Smpte.{time}
 use Rattle.smf.specs.Kind as kind
-use Rattle.smf.specs.Event.{mapMeta, mapKind, metaLoad, kindLoad, noSpan, bytesOf}
+use Rattle.smf.specs.Event.{mapMeta, mapKind, loadOr, metaCarries, carries, kindLoad, noSpan, bytesOf}
 use Rattle.smf.proofs.Signed.{signed-back}
 use Rattle.midi.specs.declared.MidiMessage.the-variants as midi
 use Rattle.meta.specs.declared.OptionU16.the-variants as option
@@ -28,7 +28,7 @@ use Rattle.event.specs.declared.TrackEventKind.the-variants as track
 use Rattle.event.proofs.TrackEventKind.{the-type}
 use Rattle.rows.specs.Rows.{rowNumbers, kindRow}
 use Rattle.rows.specs.declared.Row.{Row}
-use Rattle.same.specs.Same.{Tells, span, rowFields, rowSpan}
+use Rattle.same.specs.Same.{Tells, span, rowFields, loadSpan}
 use Rattle.same.proofs.SameTests.{tells-too}
 
 -- of a row's numbers behind its delta, the first seven are compared, and the last two say where the payload is
@@ -148,7 +148,7 @@ abbrev Load : List ℕ → kind.Kind Span → Type 0
 Load s k = kindLoad [] (mapKind (bytesOf s) k) ≡ bytesOf s (place (kindRow k))
 
 midi-load : (s : List ℕ) (channel : ℕ) (m : kind.Message) → Load s (kind.midi channel m)
-unfolding mapKind kindLoad bytesOf
+unfolding mapKind carries bytesOf
 midi-load s channel (kind.noteOff key vel) = refl
 midi-load s channel (kind.noteOn key vel) = refl
 midi-load s channel (kind.aftertouch key vel) = refl
@@ -158,7 +158,7 @@ midi-load s channel (kind.channelAftertouch vel) = refl
 midi-load s channel (kind.pitchBend raw) = refl
 
 meta-load : (s : List ℕ) (m : kind.Meta Span) → Load s (kind.meta m)
-unfolding mapKind mapMeta kindLoad metaLoad bytesOf
+unfolding mapKind mapMeta carries metaCarries bytesOf
 meta-load s (kind.trackNumber n) = refl
 meta-load s kind.noTrackNumber = refl
 meta-load s (kind.text t p) = refl
@@ -173,7 +173,7 @@ meta-load s (kind.sequencerSpecific p) = refl
 meta-load s (kind.unknown t p) = refl
 
 kind-load : (s : List ℕ) (k : kind.Kind Span) → Load s k
-unfolding mapKind kindLoad
+unfolding mapKind carries
 kind-load s (kind.midi channel message) = midi-load s channel message
 kind-load s (kind.sysEx p) = refl
 kind-load s (kind.escape p) = refl
@@ -181,13 +181,13 @@ kind-load s (kind.meta m) = meta-load s m
 
 -- the same of a row that has the numbers of a kind
 module _ (s : List ℕ) (k : TrackEventKind) (r : Row) (numbers : rowNumbers r ≡ kindRow (kindOf k)) where
-  row-back : (vs : List Val) → Is (row the-type) k vs → back (rowFields r) (bytesOf s (rowSpan r)) ≡ mapKind (bytesOf s) (kindOf k)
+  row-back : (vs : List Val) → Is (row the-type) k vs → back (rowFields r) (bytesOf s (loadSpan r)) ≡ mapKind (bytesOf s) (kindOf k)
   row-back vs h = ap (λ (l : List ℕ). back (fields l) (bytesOf s (place l))) numbers ∙ kind-back s k vs h
 
   row-fields : fieldsOf (mapKind (bytesOf s) (kindOf k)) ≡ rowFields r
   row-fields = kind-fields (bytesOf s) (kindOf k) ∙ ap fields (sym numbers)
 
-  row-load : kindLoad [] (mapKind (bytesOf s) (kindOf k)) ≡ bytesOf s (rowSpan r)
+  row-load : kindLoad [] (mapKind (bytesOf s) (kindOf k)) ≡ bytesOf s (loadSpan r)
   row-load = kind-load s (kindOf k) ∙ ap (λ (l : List ℕ). bytesOf s (place l)) (sym numbers)
 
 module _ (s t : List ℕ) (k l : TrackEventKind) (q r : Row) (numbers : rowNumbers q ≡ kindRow (kindOf k)) (numbers′ : rowNumbers r ≡ kindRow (kindOf l)) where
@@ -198,7 +198,7 @@ module _ (s t : List ℕ) (k l : TrackEventKind) (q r : Row) (numbers : rowNumbe
   SameFields = rowFields q ≡ rowFields r
 
   abbrev SameLoad : Type 0
-  SameLoad = bytesOf s (rowSpan q) ≡ bytesOf t (rowSpan r)
+  SameLoad = bytesOf s (loadSpan q) ≡ bytesOf t (loadSpan r)
 
   fields-agree : SameKind → SameFields
   fields-agree e = sym (row-fields s k q numbers) ∙ ap fieldsOf e ∙ row-fields t l r numbers′

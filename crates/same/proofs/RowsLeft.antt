@@ -11,8 +11,8 @@ use Rattle.smf.specs.Event.{Event, mapEvent, bytesOf}
 use Rattle.smf.specs.Lists.{Counted, SameList}
 use Rattle.smf.proofs.Answer.{both}
 use Rattle.rows.specs.Rows.{width}
-use Rattle.rows.specs.RowEvent.{isRow, eventOfRow, rowRecord}
-use Rattle.rows.specs.RowLists.{rowRecords, areRows}
+use Rattle.rows.specs.RowEvent.{isRow, eventOfRow, calledRow}
+use Rattle.rows.specs.RowLists.{calledRows, areRows}
 use Rattle.same.specs.OfRows.{SameGiven}
 
 -- the row at a cell, and those behind it
@@ -24,9 +24,9 @@ module _ (cells : List ℕ) (at : ℕ) {left : ℕ} (more : 0 < left) where
   unfolding areRows
   rows-on = ap (λ (n : ℕ). areRows n (drop at cells)) one-more ∙ ap (λ (l : List ℕ). isRow (take width (drop at cells)) && areRows (left - 1) l) (drop-drop width at cells)
 
-  records-on : rowRecords left (drop at cells) ≡ rowRecord (take width (drop at cells)) ∷ rowRecords (left - 1) (drop (at + width) cells)
-  unfolding rowRecords
-  records-on = ap (λ (n : ℕ). rowRecords n (drop at cells)) one-more ∙ ap (λ (l : List ℕ). rowRecord (take width (drop at cells)) ∷ rowRecords (left - 1) l) (drop-drop width at cells)
+  records-on : calledRows left (drop at cells) ≡ calledRow (take width (drop at cells)) ∷ calledRows (left - 1) (drop (at + width) cells)
+  unfolding calledRows
+  records-on = ap (λ (n : ℕ). calledRows n (drop at cells)) one-more ∙ ap (λ (l : List ℕ). calledRow (take width (drop at cells)) ∷ calledRows (left - 1) l) (drop-drop width at cells)
 
 -- the rows before the place are events'
 pub record Looked (count : ℕ) (cells : List ℕ) (at left : ℕ) : Type 0 where
@@ -48,21 +48,21 @@ module _ {count : ℕ} {cells : List ℕ} {at left : ℕ} (g : Looked count cell
   unfolding areRows
   looked-last h = let e : left ≡ 0 = omega arith in sym (g .told ∙ ap (λ (n : ℕ). areRows n (drop at cells)) e)
 
-records-length : (n : ℕ) (cells : List ℕ) → length (rowRecords n cells) ≡ n
-unfolding rowRecords
+records-length : (n : ℕ) (cells : List ℕ) → length (calledRows n cells) ≡ n
+unfolding calledRows
 records-length zero cells = refl
 records-length (suc n) cells = ap suc (records-length n (drop width cells))
 
 module _ (s a t b : List ℕ) where
   -- so many rows have the same events
   abbrev Alike : ℕ → List ℕ → List ℕ → Type 0
-  Alike n xs ys = map (mapEvent (bytesOf s)) (rowRecords n xs) ≡ map (mapEvent (bytesOf t)) (rowRecords n ys)
+  Alike n xs ys = map (mapEvent (bytesOf s)) (calledRows n xs) ≡ map (mapEvent (bytesOf t)) (calledRows n ys)
 
   abbrev SameRows : ℕ → Type 0
-  SameRows n = SameList s (rowRecords n a) n t (rowRecords n b) n
+  SameRows n = SameList s (calledRows n a) n t (calledRows n b) n
 
-  taken : (n : ℕ) (cells : List ℕ) → take n (rowRecords n cells) ≡ rowRecords n cells
-  taken n cells = take-all n (rowRecords n cells) (omega (arith, records-length n cells))
+  taken : (n : ℕ) (cells : List ℕ) → take n (calledRows n cells) ≡ calledRows n cells
+  taken n cells = take-all n (calledRows n cells) (omega (arith, records-length n cells))
 
   pub as-lists : (n : ℕ) → Alike n a b → SameRows n
   as-lists n h = rw (taken n a, taken n b) (ap (λ (l : List (Event (List ℕ))). record { count = n; events = l }) h)
@@ -83,7 +83,7 @@ module _ (s a t b : List ℕ) where
 
   module _ {count at left : ℕ} (g : Compared count at left) where
     pub compared-last : left ≤ 0 → SameRows count
-    unfolding rowRecords
+    unfolding calledRows
     compared-last h =
         let e : left ≡ 0 = omega arith in
         let none : Alike left (drop at a) (drop at b) = rw e refl in
@@ -103,22 +103,22 @@ module _ (s a t b : List ℕ) where
       second = both (isRow rb) (areRows (left - 1) (drop (at + width) b)) (sym (rows-on b at more) ∙ g .second-rows)
 
       abbrev SameHere : Type 0
-      SameHere = mapEvent (bytesOf s) (rowRecord ra) ≡ mapEvent (bytesOf t) (rowRecord rb)
+      SameHere = mapEvent (bytesOf s) (calledRow ra) ≡ mapEvent (bytesOf t) (calledRow rb)
 
       here : SameGiven s (eventOfRow ra) t (eventOfRow rb) → SameHere
-      unfolding eventOfRow rowRecord
-      here h = rw (first .0, second .0) (rw (first .0, second .0) at h)
+      unfolding eventOfRow
+      here h = rw (first .0, second .0) at h
 
       given : SameHere → SameGiven s (eventOfRow ra) t (eventOfRow rb)
-      unfolding eventOfRow rowRecord
-      given h = rw (first .0, second .0) (rw (first .0, second .0) at h)
+      unfolding eventOfRow
+      given h = rw (first .0, second .0) h
 
       abbrev Ahead : Type 0
       Ahead = Alike (left - 1) (drop (at + width) a) (drop (at + width) b)
 
       apart : Alike count a b → SameHere × Ahead
       apart h =
-          let e : map (mapEvent (bytesOf s)) (rowRecord ra ∷ rowRecords (left - 1) (drop (at + width) a)) ≡ map (mapEvent (bytesOf t)) (rowRecord rb ∷ rowRecords (left - 1) (drop (at + width) b)) = rw (records-on a at more, records-on b at more) at (g .from h) in
+          let e : map (mapEvent (bytesOf s)) (calledRow ra ∷ calledRows (left - 1) (drop (at + width) a)) ≡ map (mapEvent (bytesOf t)) (calledRow rb ∷ calledRows (left - 1) (drop (at + width) b)) = rw (records-on a at more, records-on b at more) at (g .from h) in
           (cc, cc)
 
       together : SameHere → Ahead → Alike count a b

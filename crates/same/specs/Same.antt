@@ -19,5 +19,5 @@ abbrev pub rowFields : Row → List ℕ
 rowFields r = r .kind ∷ r .a ∷ r .b ∷ r .c ∷ r .d ∷ r .e ∷ r .f ∷ []
 
 -- the range of a row's payload, of which the bytes count and not the start
-abbrev pub rowSpan : Row → Span
-rowSpan r = span (r .start) (r .length)
+abbrev pub loadSpan : Row → Span
+loadSpan r = span (r .start) (r .length)

@@ -5,7 +5,7 @@ ghost use Prim.Native.Nat.{_-_, _≤_};
 ghost use lib.ListN.{length};
 ghost use Rattle.smf.specs.Event.{mapKind, bytesOf, Same};
 ghost use Rattle.event.specs.Event.{kindOf, eventOf};
-ghost use Rattle.same.specs.Same.{Tells, span, rowFields, rowSpan};
+ghost use Rattle.same.specs.Same.{Tells, span, rowFields, loadSpan};
 use event::TrackEvent;
 use event::TrackEventKind;
 use rows::Row;
@@ -46,7 +46,7 @@ fn agree(a: &[u8], a_start: usize, b: &[u8], b_start: usize, size: usize) -> boo
 
 // Whether the payload bytes agree; of a range that is not inside, those that there are.
 fn same_load(a: Row, a_bytes: &[u8], b: Row, b_bytes: &[u8]) -> bool
-    ensures { λ r. ⌜ Tells r (bytesOf (now («a_bytes» .entry)) (rowSpan a) ≡ bytesOf (now («b_bytes» .entry)) (rowSpan b)) ⌝ }
+    ensures { λ r. ⌜ Tells r (bytesOf (now («a_bytes» .entry)) (loadSpan a) ≡ bytesOf (now («b_bytes» .entry)) (loadSpan b)) ⌝ }
 {
     let size = held(a_bytes, a.start, a.length);
     if held(b_bytes, b.start, b.length) != size {

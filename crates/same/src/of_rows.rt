@@ -9,7 +9,7 @@ ghost use Rattle.smf.specs.Lists.{SameList};
 ghost use Rattle.track.specs.List.{capacity};
 ghost use Rattle.rows.specs.Rows.{width};
 ghost use Rattle.rows.specs.RowEvent.{calledRow, eventOfRow};
-ghost use Rattle.rows.specs.RowLists.{rowRecords, areRows};
+ghost use Rattle.rows.specs.RowLists.{calledRows, areRows};
 ghost use Rattle.same.specs.Same.{Tells};
 ghost use Rattle.same.specs.OfRows.{Says, rowsAsked, listsAsked, SameGiven};
 use crate::same_event;
@@ -73,7 +73,7 @@ fn same_all(a: &[u64], a_bytes: &[u8], b: &[u64], b_bytes: &[u8], count: usize) 
     requires { ⌜ count ≤ capacity ⌝ }
     requires { ⌜ areRows count (now a) ≡ true ⌝ }
     requires { ⌜ areRows count (now b) ≡ true ⌝ }
-    ensures { λ r. ⌜ Tells r (SameList (now («a_bytes» .entry)) (rowRecords count (now (a .entry))) count (now («b_bytes» .entry)) (rowRecords count (now (b .entry))) count) ⌝ }
+    ensures { λ r. ⌜ Tells r (SameList (now («a_bytes» .entry)) (calledRows count (now (a .entry))) count (now («b_bytes» .entry)) (calledRows count (now (b .entry))) count) ⌝ }
 {
     let mut left = count;
     let mut at: usize = 0;
@@ -97,7 +97,7 @@ pub fn same_row_lists(
     b_count: usize,
     b_bytes: &[u8],
 ) -> Sameness
-    ensures { λ r. ⌜ Says r (listsAsked capacity (now (a .entry)) «a_count» (now (b .entry)) «b_count») (SameList (now («a_bytes» .entry)) (rowRecords «a_count» (now (a .entry))) «a_count» (now («b_bytes» .entry)) (rowRecords «b_count» (now (b .entry))) «b_count») ⌝ }
+    ensures { λ r. ⌜ Says r (listsAsked capacity (now (a .entry)) «a_count» (now (b .entry)) «b_count») (SameList (now («a_bytes» .entry)) (calledRows «a_count» (now (a .entry))) «a_count» (now («b_bytes» .entry)) (calledRows «b_count» (now (b .entry))) «b_count») ⌝ }
 {
     if CAPACITY < a_count {
         return Sameness::Refused(Refusal::TooManyEvents);

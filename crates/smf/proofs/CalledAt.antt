@@ -17,7 +17,8 @@ use Rattle.smf.specs.Header.{word}
 use Rattle.smf.specs.Kind.{Meta, trackNumber, noTrackNumber, text, tempo, timeSignature, keySignature, midiChannel, midiPort, endOfTrack, smpteOffset, sequencerSpecific, unknown}
 use Rattle.smf.specs.Kind.{byte, isText, trackNumberOf, from, narrow, tempoOf, timeIn, signatureOf, keyOf, calledMeta}
 use Rattle.smf.specs.Event.{mapMeta, bytesOf}
-use Rattle.smf.specs.MetaAt.{MetaAt, calledAt}
+use Rattle.smf.specs.MetaAt.{MetaAt}
+use Rattle.smf.proofs.MetaAt.{calledAt}
 
 -- the form of each type
 

@@ -17,7 +17,7 @@ use Rattle.smf.specs.Wire.{RawEvent, rawEvent, Taken, taken, Reading, re
 use Rattle.smf.specs.Kind.{Meta, trackNumber, noTrackNumber, text, midiChannel, midiPort, endOfTrack, tempo, smpteOffset, timeSignature, keySignature, sequencerSpecific, unknown}
 use Rattle.smf.specs.Kind.{Kind, midi, sysEx, escape, meta, called, rawOf}
 use Rattle.smf.specs.Event.{Event, event, mapMeta, mapKind, mapEvent, named, nameRaw, readEvent, EventAt, spanBefore, eventPlaced, ReadAt, readsAt, refusedAt, placed, eventAt}
-use Rattle.smf.specs.Event.{metaFits, kindFits, metaLoad, kindLoad, inside, bytesOf, isNamed, metaMisnamed, kindMisnamed, isLegal, noSpan, spanLength, legal, encodeEvent}
+use Rattle.smf.specs.Event.{metaFits, kindFits, Carried, nothing, owned, untold, metaCarries, carries, loadOr, kindLoad, inside, bytesOf, isNamed, misnamed, kindMisnamed, isLegal, noSpan, spanLength, legal, encodeEvent}
 use Rattle.smf.proofs.Answer.{pick-test, both, said-of, Alike, Gives}
 use Rattle.smf.proofs.Ends.{Ends, ends-bare, ends-length, ends-tail, ends-load}
 use Rattle.smf.proofs.Wire.{load-small, after-runs, raw-reads-back, Read, RawRead, raw-read, raw-event-length, ReadsAlike, raw-alike}
@@ -142,8 +142,8 @@ module _ (s : List ℕ) (end : ℕ) where
   abbrev Stands : List ℕ → Type 0
   Stands p = take (length p) (drop (end - length p) s) ≡ p
 
-  meta-placed : (m : Meta (List ℕ)) → Stands (metaLoad [] m) → mapMeta (bytesOf s) (mapMeta (spanBefore end) m) ≡ m
-  unfolding mapMeta metaLoad bytesOf
+  meta-placed : (m : Meta (List ℕ)) → Stands (loadOr [] (metaCarries m)) → mapMeta (bytesOf s) (mapMeta (spanBefore end) m) ≡ m
+  unfolding mapMeta metaCarries bytesOf
   meta-placed (trackNumber n) h = refl
   meta-placed noTrackNumber h = refl
   meta-placed (text t p) h = rw h
@@ -158,7 +158,7 @@ module _ (s : List ℕ) (end : ℕ) where
   meta-placed (unknown t p) h = rw h
 
   kind-placed : (k : Kind (List ℕ)) → Stands (kindLoad [] k) → mapKind (bytesOf s) (mapKind (spanBefore end) k) ≡ k
-  unfolding mapKind kindLoad bytesOf
+  unfolding mapKind carries bytesOf
   kind-placed (midi channel m) h = refl
   kind-placed (sysEx p) h = rw h
   kind-placed (escape p) h = rw h
@@ -259,50 +259,50 @@ fits-over rules f (sysEx p) = refl
 fits-over rules f (escape p) = refl
 fits-over rules f (meta m) = meta-fits-over rules f m
 
-meta-load-over : {P Q : Type 0} (f : P → Q) (none : P) (m : Meta P) → metaLoad (f none) (mapMeta f m) ≡ f (metaLoad none m)
-unfolding mapMeta metaLoad
-meta-load-over f none (trackNumber n) = refl
-meta-load-over f none noTrackNumber = refl
-meta-load-over f none (text t p) = refl
-meta-load-over f none (midiChannel c) = refl
-meta-load-over f none (midiPort c) = refl
-meta-load-over f none endOfTrack = refl
-meta-load-over f none (tempo v) = refl
-meta-load-over f none (smpteOffset time) = refl
-meta-load-over f none (timeSignature a b c d) = refl
-meta-load-over f none (keySignature sharps minor) = refl
-meta-load-over f none (sequencerSpecific p) = refl
-meta-load-over f none (unknown t p) = refl
+-- what it carries
+mapCarried : {P Q : Type 0} → (P → Q) → Carried P → Carried Q
+mapCarried f nothing = nothing
+mapCarried f (owned p) = owned (f p)
+mapCarried f (untold t p) = untold t (f p)
+
+meta-carries-over : {P Q : Type 0} (f : P → Q) (m : Meta P) → metaCarries (mapMeta f m) ≡ mapCarried f (metaCarries m)
+unfolding mapMeta metaCarries mapCarried
+meta-carries-over f (trackNumber n) = refl
+meta-carries-over f noTrackNumber = refl
+meta-carries-over f (text t p) = refl
+meta-carries-over f (midiChannel c) = refl
+meta-carries-over f (midiPort c) = refl
+meta-carries-over f endOfTrack = refl
+meta-carries-over f (tempo v) = refl
+meta-carries-over f (smpteOffset time) = refl
+meta-carries-over f (timeSignature a b c d) = refl
+meta-carries-over f (keySignature sharps minor) = refl
+meta-carries-over f (sequencerSpecific p) = refl
+meta-carries-over f (unknown t p) = refl
+
+carries-over : {P Q : Type 0} (f : P → Q) (k : Kind P) → carries (mapKind f k) ≡ mapCarried f (carries k)
+unfolding mapKind carries mapCarried
+carries-over f (midi channel m) = refl
+carries-over f (sysEx p) = refl
+carries-over f (escape p) = refl
+carries-over f (meta m) = meta-carries-over f m
 
 pub load-over : {P Q : Type 0} (f : P → Q) (none : P) (k : Kind P) → kindLoad (f none) (mapKind f k) ≡ f (kindLoad none k)
-unfolding mapKind kindLoad
-load-over f none (midi channel m) = refl
-load-over f none (sysEx p) = refl
-load-over f none (escape p) = refl
-load-over f none (meta m) = meta-load-over f none m
+unfolding mapCarried
+load-over {P} f none k = rw (carries-over f k) (by (carries k)) where
+  by : (c : Carried P) → loadOr (f none) (mapCarried f c) ≡ f (loadOr none c)
+  by nothing = refl
+  by (owned p) = refl
+  by (untold t p) = refl
 
 module _ (rules : Rules) {P Q : Type 0} (f : P → Q) (size : Q → ℕ) (size′ : P → ℕ) (none : P) where
-  meta-misnamed-over : (m : Meta P) → size (f (metaLoad none m)) ≡ size′ (metaLoad none m) → metaMisnamed rules size (mapMeta f m) ≡ metaMisnamed rules size′ m
-  unfolding mapMeta metaLoad metaMisnamed
-  meta-misnamed-over (trackNumber n) h = refl
-  meta-misnamed-over noTrackNumber h = refl
-  meta-misnamed-over (text t p) h = refl
-  meta-misnamed-over (midiChannel c) h = refl
-  meta-misnamed-over (midiPort c) h = refl
-  meta-misnamed-over endOfTrack h = refl
-  meta-misnamed-over (tempo v) h = refl
-  meta-misnamed-over (smpteOffset time) h = refl
-  meta-misnamed-over (timeSignature a b c d) h = refl
-  meta-misnamed-over (keySignature sharps minor) h = refl
-  meta-misnamed-over (sequencerSpecific p) h = refl
-  meta-misnamed-over (unknown t p) h = ap (isNamed rules t) h
-
   misnamed-over : (k : Kind P) → size (f (kindLoad none k)) ≡ size′ (kindLoad none k) → kindMisnamed rules size (mapKind f k) ≡ kindMisnamed rules size′ k
-  unfolding mapKind kindLoad kindMisnamed
-  misnamed-over (midi channel m) h = refl
-  misnamed-over (sysEx p) h = refl
-  misnamed-over (escape p) h = refl
-  misnamed-over (meta m) h = meta-misnamed-over m h
+  unfolding mapCarried
+  misnamed-over k h = rw (carries-over f k) (by (carries k) h) where
+    by : (c : Carried P) → size (f (loadOr none c)) ≡ size′ (loadOr none c) → misnamed rules size (mapCarried f c) ≡ misnamed rules size′ c
+    by nothing h = refl
+    by (owned p) h = refl
+    by (untold t p) h = ap (isNamed rules t) h
 
 pub inside-length : (bytes : List ℕ) (span : Span) → inside bytes span ≡ true → length (bytesOf bytes span) ≡ span .length
 unfolding inside bytesOf
@@ -320,11 +320,11 @@ module _ (rules : Rules) (bytes : List ℕ) (e : Event Span) where
   abbrev short : Bool
   short = ltb (spanLength (kindLoad noSpan (e .kind))) (2 ^ 28)
 
-  abbrev misnamed : Bool
-  misnamed = kindMisnamed rules spanLength (e .kind)
+  abbrev proper : Bool
+  proper = not (kindMisnamed rules spanLength (e .kind))
 
   -- where its range is inside, they are those of the event that it is over the bytes
-  tests-over : within ≡ true → isLegal rules (mapEvent (bytesOf bytes) e) ≡ (fit && short && not misnamed)
+  tests-over : within ≡ true → isLegal rules (mapEvent (bytesOf bytes) e) ≡ (fit && short && proper)
   unfolding isLegal mapEvent bytesOf
   tests-over h =
       let n = inside-length bytes (kindLoad noSpan (e .kind)) h in
@@ -339,16 +339,16 @@ module _ (rules : Rules) (bytes : List ℕ) (e : Event Span) where
       let P = Gives Over in
       pick-test P fit
       (λ f. pick-test P within
-      (λ w. pick-test P short (λ s. pick-test P misnamed (λ _. tt) (λ o. (w, tests-over w ∙ rw (f, s, o), refl))) (λ _. tt))
+      (λ w. pick-test P short (λ s. pick-test P proper (λ o. (w, tests-over w ∙ rw (f, s, o), refl)) (λ _. tt)) (λ _. tt))
       (λ _. tt))
       (λ _. tt)
 
   over-legal : (l : Event (List ℕ)) → Over l → legal rules bytes e ≡ gives l
   unfolding legal
   over-legal l h =
-      let t = both (fit && short) (not misnamed) (sym (tests-over (h .0)) ∙ h .1) in
+      let t = both (fit && short) proper (sym (tests-over (h .0)) ∙ h .1) in
       let u = both fit short (t .0) in
-      rw (u .0, h .0, u .1, not-true misnamed (t .1)) (ap gives (sym (h .2)))
+      rw (u .0, h .0, u .1, t .1) (ap gives (sym (h .2)))
 
   -- a record is legal exactly when its range is inside the bytes lent and the event that it is over them is legal; and it gives that event
   pub legal-exactly : (l : Event (List ℕ)) → (legal rules bytes e ≡ gives l) ↔ ((inside bytes (kindLoad noSpan (e .kind)) ≡ true) × (isLegal rules (mapEvent (bytesOf bytes) e) ≡ true) × (l ≡ mapEvent (bytesOf bytes) e))

@@ -18,7 +18,7 @@ use Rattle.smf.specs.Wire.{one, two, dataLength}
 use Rattle.smf.specs.Kind.{Message, noteOff, noteOn, aftertouch, controller, programChange, channelAftertouch, pitchBend}
 use Rattle.smf.specs.Kind.{Meta, trackNumber, noTrackNumber, text, midiChannel, midiPort, endOfTrack, tempo, smpteOffset, timeSignature, keySignature, sequencerSpecific, unknown}
 use Rattle.smf.specs.Kind.{Kind, midi, sysEx, escape, meta, messageOne, messageTwo, isText, trackNumberOf, from, narrow, timeIn, calledMeta, called, rawMessage, rawMeta, rawOf}
-use Rattle.smf.specs.Event.{messageFits, metaFits, kindFits, metaLoad, kindLoad, isNamed, metaMisnamed, kindMisnamed}
+use Rattle.smf.specs.Event.{messageFits, metaFits, kindFits, loadOr, metaCarries, carries, kindLoad, isNamed, misnamed, kindMisnamed}
 use Rattle.smf.proofs.Answer.{pick-test, both}
 use Rattle.smf.proofs.Signed.{signed-back}
 use Rattle.smf.proofs.Smpte.{in-range, rate-small, rate-coded, time-length, time-reads-back}
@@ -162,8 +162,8 @@ unfolding narrow
 narrow-own rules limit c of h l = let e : c % 256 ≡ c = mod-eq-of-lt (omega arith) in rw (e, lt-ltb c limit h)
 
 -- a legal meta message is called itself by its raw event
-meta-called : (rules : Rules) (m : Meta (List ℕ)) → metaFits rules m ≡ true → metaMisnamed rules length m ≡ false → called rules (rawMeta m) ≡ gives (meta m)
-unfolding called calledMeta rawMeta metaFits metaMisnamed isText trackNumberOf
+meta-called : (rules : Rules) (m : Meta (List ℕ)) → metaFits rules m ≡ true → misnamed rules length (metaCarries m) ≡ false → called rules (rawMeta m) ≡ gives (meta m)
+unfolding called calledMeta rawMeta metaFits metaCarries isText trackNumberOf
 meta-called rules (trackNumber n) f o = let g = ltb-true n 65536 f in ap (λ (k : ℕ). gives (meta (trackNumber k))) (omega arith)
 meta-called rules noTrackNumber f o = refl
 meta-called rules (text t p) f o = rw (ne-eqb t 0x00 (omega (arith, is-text t f .0)), f)
@@ -183,14 +183,14 @@ meta-called rules (unknown t p) f o = rw (unnamed-itself rules t p o)
 
 -- a legal kind is called itself by its raw event, which is sound
 pub kind-called : (rules : Rules) (k : Kind (List ℕ)) → LegalKind rules k → called rules (rawOf k) ≡ gives k
-unfolding rawOf kindFits kindMisnamed called
+unfolding rawOf kindFits carries called
 kind-called rules (midi channel m) l = let f = both _ _ (l .fits) in message-called channel (ltb-true channel 16 (f .0)) rules m
 kind-called rules (sysEx p) l = refl
 kind-called rules (escape p) l = refl
 kind-called rules (meta m) l = meta-called rules m (l .fits) (l .own)
 
-meta-sound : (m : Meta (List ℕ)) → length (metaLoad [] m) < 2 ^ 28 → Sound (rawMeta m)
-unfolding rawMeta metaLoad
+meta-sound : (m : Meta (List ℕ)) → length (loadOr [] (metaCarries m)) < 2 ^ 28 → Sound (rawMeta m)
+unfolding rawMeta metaCarries
 meta-sound (trackNumber n) h = omega arith
 meta-sound noTrackNumber h = omega arith
 meta-sound (text t p) h = h
@@ -205,7 +205,7 @@ meta-sound (sequencerSpecific p) h = h
 meta-sound (unknown t p) h = h
 
 pub kind-sound : (rules : Rules) (k : Kind (List ℕ)) → LegalKind rules k → Sound (rawOf k)
-unfolding rawOf kindFits kindLoad
+unfolding rawOf kindFits carries
 kind-sound rules (midi channel m) l = let f = both _ _ (l .fits) in message-sound channel (ltb-true channel 16 (f .0)) rules m (f .1)
 kind-sound rules (sysEx p) l = (inl refl, l .small)
 kind-sound rules (escape p) l = (inr refl, l .small)

@@ -1,5 +1,6 @@
 -- Legality: whether bytes are read strictly or leniently does not touch it.
 use mathlib.Core.Path.{_≡_, refl, _∙_}
+use mathlib.Core.Bool.{true}
 use mathlib.Core.List.{List, [], _∷_}
 use Prim.Native.Nat.{ℕ}
 use lib.ListN.{length}
@@ -8,8 +9,12 @@ use Rattle.smf.specs.Smpte.{isTime}
 use Rattle.smf.specs.Kind.{Message, noteOff, noteOn, aftertouch, controller, programChange, channelAftertouch, pitchBend}
 use Rattle.smf.specs.Kind.{Meta, trackNumber, noTrackNumber, text, midiChannel, midiPort, endOfTrack, tempo, smpteOffset, timeSignature, keySignature, sequencerSpecific, unknown}
 use Rattle.smf.specs.Kind.{Kind, midi, sysEx, escape, meta}
-use Rattle.smf.specs.Event.{Event, messageFits, metaFits, kindFits, isNamed, metaMisnamed, kindMisnamed, isLegal}
-use Rattle.smf.specs.Lists.{AllLegal}
+use Rattle.smf.specs.Event.{Event, messageFits, metaFits, kindFits, Carried, nothing, owned, untold, carries, isNamed, misnamed, isLegal}
+
+-- each event of a list is legal
+abbrev pub AllLegal : Rules → List (Event (List ℕ)) → Type 0
+AllLegal rules [] = Unit {0}
+AllLegal rules (e ∷ es) = (isLegal rules e ≡ true) × AllLegal rules es
 
 module _ (rules : Rules) where
   message-fits-strictly : (m : Message) → messageFits (strictOf rules) m ≡ messageFits rules m
@@ -44,32 +49,16 @@ module _ (rules : Rules) where
   kind-fits-strictly (escape p) = refl
   kind-fits-strictly (meta m) = meta-fits-strictly m
 
-  meta-misnamed-strictly : {P : Type 0} (size : P → ℕ) (m : Meta P) → metaMisnamed (strictOf rules) size m ≡ metaMisnamed rules size m
-  unfolding metaMisnamed isNamed
-  meta-misnamed-strictly size (trackNumber n) = refl
-  meta-misnamed-strictly size noTrackNumber = refl
-  meta-misnamed-strictly size (text t p) = refl
-  meta-misnamed-strictly size (midiChannel c) = refl
-  meta-misnamed-strictly size (midiPort c) = refl
-  meta-misnamed-strictly size endOfTrack = refl
-  meta-misnamed-strictly size (tempo v) = refl
-  meta-misnamed-strictly size (smpteOffset time) = refl
-  meta-misnamed-strictly size (timeSignature a b c d) = refl
-  meta-misnamed-strictly size (keySignature sharps minor) = refl
-  meta-misnamed-strictly size (sequencerSpecific p) = refl
-  meta-misnamed-strictly size (unknown t p) = refl
-
-  kind-misnamed-strictly : {P : Type 0} (size : P → ℕ) (k : Kind P) → kindMisnamed (strictOf rules) size k ≡ kindMisnamed rules size k
-  unfolding kindMisnamed
-  kind-misnamed-strictly size (midi channel m) = refl
-  kind-misnamed-strictly size (sysEx p) = refl
-  kind-misnamed-strictly size (escape p) = refl
-  kind-misnamed-strictly size (meta m) = meta-misnamed-strictly size m
+  misnamed-strictly : {P : Type 0} (size : P → ℕ) (c : Carried P) → misnamed (strictOf rules) size c ≡ misnamed rules size c
+  unfolding isNamed
+  misnamed-strictly size nothing = refl
+  misnamed-strictly size (owned p) = refl
+  misnamed-strictly size (untold t p) = refl
 
   -- an event is legal under strict rules exactly when it is legal under the same rules, strict or not
   pub legal-strictly : (e : Event (List ℕ)) → isLegal (strictOf rules) e ≡ isLegal rules e
   unfolding isLegal
-  legal-strictly e = rw (kind-fits-strictly (e .kind), kind-misnamed-strictly length (e .kind))
+  legal-strictly e = rw (kind-fits-strictly (e .kind), misnamed-strictly length (carries (e .kind)))
 
   -- and so are all of a list
   pub all-strictly : (es : List (Event (List ℕ))) → AllLegal rules es → AllLegal (strictOf rules) es

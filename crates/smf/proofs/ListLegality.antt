@@ -1,7 +1,7 @@
--- When the records of a list are legal, and which is the first that is not.
+-- Events as they were judged: when all of a list are legal, and which is the first that is not.
 use mathlib.Core.Path.{_≡_, refl, sym, ap, _∙_, subst}
 use mathlib.Core.Bool.{true}
-use mathlib.Core.List.{List, [], _∷_, map}
+use mathlib.Core.List.{List, [], _∷_, _++_, map}
 use mathlib.Core.Logic.{_↔_}
 use Prim.Native.Nat.{ℕ, zero, suc, _+_, _<_}
 use native.Mathlib.Numerals.{add-one}
@@ -11,99 +11,148 @@ use lib.Seq.{drop-cons}
 use Rattle.smf.specs.Answer.{Answer, gives, refuses, Rules}
 use Rattle.smf.specs.Place.{Span}
 use Rattle.smf.specs.Event.{Event, mapEvent, isLegal, bytesOf, legal}
-use Rattle.smf.specs.Lists.{AllLegal, RecordsLegal, Checked, allLegal, illegal, withEvent, checkOn, check}
+use Rattle.smf.specs.Lists.{recordsJudged, Checked, allLegal, illegal, withEvent, checkOn, check, listed}
 use Rattle.smf.proofs.Event.{legal-exactly}
+use Rattle.smf.proofs.Legal.{AllLegal}
 
--- the records before the k-th are legal, and it is refused by n
-pub record FirstIllegal (rules : Rules) (bytes : List ℕ) (records : List (Event Span)) (n k : ℕ) : Type 0 where
-  pub before : RecordsLegal rules bytes (take k records)
-  pub event : Event Span
-  pub later : List (Event Span)
-  pub there : drop k records ≡ event ∷ later
-  pub refused : legal rules bytes event ≡ refuses n
+-- those before the k-th are legal, and it is refused by n
+pub record FirstIllegal (judged : List (Answer (Event (List ℕ)))) (n k : ℕ) : Type 0 where
+  pub events : List (Event (List ℕ))
+  pub before : take k judged ≡ map gives events
+  pub later : List (Answer (Event (List ℕ)))
+  pub there : drop k judged ≡ refuses n ∷ later
+
+-- events that were given are those that were given
+pub given-once : (es fs : List (Event (List ℕ))) → map gives es ≡ map gives fs → es ≡ fs
+given-once [] [] h = refl
+given-once [] (f ∷ fs) h = absurd (omega (arith, ap length h))
+given-once (e ∷ es) [] h = absurd (omega (arith, ap length h))
+given-once (e ∷ es) (f ∷ fs) h =
+    let q : e ≡ f = cc in
+    let more : map gives es ≡ map gives fs = cc in
+    rw q (ap (λ (l : List (Event (List ℕ))). f ∷ l) (given-once es fs more))
+
+pub given-length : (es : List (Event (List ℕ))) → length (map gives es) ≡ length es
+given-length [] = refl
+given-length (e ∷ es) = ap suc (given-length es)
+
+-- from what they are to the answer
+
+pub check-given : (i : ℕ) (es : List (Event (List ℕ))) → check i (map gives es) ≡ allLegal es
+unfolding check checkOn withEvent
+check-given i [] = refl
+check-given i (e ∷ es) = rw (check-given (i + 1) es)
+
+-- and from the answer to what it says of them
+
+abbrev Says : ℕ → List (Answer (Event (List ℕ))) → Checked → Type 0
+Says i judged (allLegal es) = judged ≡ map gives es
+Says i judged (illegal n j) = (k : ℕ) × (j ≡ i + k) × FirstIllegal judged n k
+
+one-says : (i : ℕ) (a : Answer (Event (List ℕ))) (others : List (Answer (Event (List ℕ)))) (c : Checked) → Says (i + 1) others c → Says i (a ∷ others) (checkOn i a c)
+unfolding checkOn withEvent
+one-says i (refuses n) others c s = (zero, omega arith, record { events = []; before = refl; later = others; there = refl })
+one-says i (gives e) others (allLegal es) s = ap (λ (l : List (Answer (Event (List ℕ)))). gives e ∷ l) s
+one-says i (gives e) others (illegal n j) s =
+    let f = s .2 in
+    (suc (s .0), omega (arith, s .1), record { events = e ∷ f .events; before = ap (λ (l : List (Answer (Event (List ℕ)))). gives e ∷ l) (f .before); later = f .later; there = f .there })
+
+check-says : (i : ℕ) (judged : List (Answer (Event (List ℕ)))) → Says i judged (check i judged)
+unfolding check
+check-says i [] = refl
+check-says i (a ∷ others) = one-says i a others (check (i + 1) others) (check-says (i + 1) others)
+
+-- all are legal exactly when each was given
+pub check-legal : (i : ℕ) (judged : List (Answer (Event (List ℕ)))) (es : List (Event (List ℕ))) → (check i judged ≡ allLegal es) ↔ (judged ≡ map gives es)
+check-legal i judged es = ((λ e. subst (Says i judged) e (check-says i judged)), (λ h. ap (check i) h ∙ check-given i es))
+
+check-first : (i k n : ℕ) (judged : List (Answer (Event (List ℕ)))) → FirstIllegal judged n k → check i judged ≡ illegal n (i + k)
+unfolding check checkOn withEvent
+check-first i zero n [] f = let z : [] ≡ refuses n ∷ f .later = f .there in absurd (omega (arith, ap length z))
+check-first i (suc k) n [] f = let z : [] ≡ refuses n ∷ f .later = f .there in absurd (omega (arith, ap length z))
+check-first i zero n (a ∷ others) f =
+    let z : a ∷ others ≡ refuses n ∷ f .later = f .there in
+    let q : a ≡ refuses n = cc in
+    let p : i ≡ i + 0 = omega arith in
+    rw q (ap (illegal n) p)
+check-first i (suc k) n (a ∷ others) f = by (f .events) (f .before) (λ g. check-first (i + 1) k n others g) where
+  by : (es : List (Event (List ℕ))) → a ∷ take k others ≡ map gives es → (FirstIllegal others n k → check (i + 1) others ≡ illegal n (i + 1 + k))
+      → check i (a ∷ others) ≡ illegal n (i + suc k)
+  by [] b on = absurd (omega (arith, ap length b))
+  by (e ∷ es) b on =
+      let q : a ≡ gives e = cc in
+      let behind : take k others ≡ map gives es = cc in
+      let more = on (record { events = es; before = behind; later = f .later; there = f .there }) in
+      let p : i + 1 + k ≡ i + suc k = omega arith in
+      rw (q, more) (ap (illegal n) p)
+
+-- the first illegal one, by its number and index
+pub check-illegal : (judged : List (Answer (Event (List ℕ)))) (n k : ℕ) → (check 0 judged ≡ illegal n k) ↔ FirstIllegal judged n k
+check-illegal judged n k = (
+  (λ e. let s : Says 0 judged (illegal n k) = subst (Says 0 judged) e (check-says 0 judged) in
+      let q : s .0 ≡ k = omega (arith, s .1) in
+      subst (FirstIllegal judged n) q (s .2)),
+  (λ f. let p : 0 + k ≡ k = omega arith in check-first 0 k n judged f ∙ ap (illegal n) p),
+)
+
+-- as a loop finds it: so many are legal, and so is or is not the next
+pub legal-more : (judged : List (Answer (Event (List ℕ)))) (i : ℕ) (d : Answer (Event (List ℕ))) (es : List (Event (List ℕ))) (e : Event (List ℕ)) → i < length judged
+    → take i judged ≡ map gives es → getD judged i d ≡ gives e → take (i + 1) judged ≡ map gives (es ++ (e ∷ []))
+legal-more judged i d es e h before there = rw (add-one i) (go i judged es h before there) where
+  go : (i : ℕ) (judged : List (Answer (Event (List ℕ)))) (es : List (Event (List ℕ))) → i < length judged
+      → take i judged ≡ map gives es → getD judged i d ≡ gives e → take (suc i) judged ≡ map gives (es ++ (e ∷ []))
+  go zero [] es h b t = absurd (omega arith)
+  go (suc i) [] es h b t = absurd (omega arith)
+  go zero (a ∷ others) [] h b t = ap (λ (x : Answer (Event (List ℕ))). x ∷ []) t
+  go zero (a ∷ others) (x ∷ es) h b t = absurd (omega (arith, ap length b))
+  go (suc i) (a ∷ others) [] h b t = absurd (omega (arith, ap length b))
+  go (suc i) (a ∷ others) (x ∷ es) h b t =
+      let q : a ≡ gives x = cc in
+      let behind : take i others ≡ map gives es = cc in
+      rw q (ap (λ (l : List (Answer (Event (List ℕ)))). gives x ∷ l) (go i others es (omega arith) behind t))
+
+pub legal-stops : (judged : List (Answer (Event (List ℕ)))) (i : ℕ) (d : Answer (Event (List ℕ))) (es : List (Event (List ℕ))) {n : ℕ} → i < length judged
+    → take i judged ≡ map gives es → getD judged i d ≡ refuses n → check 0 judged ≡ illegal n i
+legal-stops judged i d es {n} h before e =
+    check-illegal judged n i .1 (record { events = es; before = before; later = drop (suc i) judged; there = drop-cons judged i d h ∙ ap (λ (x : Answer (Event (List ℕ))). x ∷ drop (suc i) judged) e })
+
+-- Records
+
+-- what is given by its judges is legal
+abbrev pub Lawful : Rules → List (Answer (Event (List ℕ))) → Type 0
+Lawful rules [] = Unit {0}
+Lawful rules (a ∷ others) = ((e : Event (List ℕ)) → a ≡ gives e → isLegal rules e ≡ true) × Lawful rules others
+
+pub lawful-all : (rules : Rules) (es : List (Event (List ℕ))) → Lawful rules (map gives es) → AllLegal rules es
+lawful-all rules [] h = tt
+lawful-all rules (e ∷ es) h = (h .0 e refl, lawful-all rules es (h .1))
+
+pub lawful-take : (rules : Rules) (i : ℕ) (judged : List (Answer (Event (List ℕ)))) → Lawful rules judged → Lawful rules (take i judged)
+lawful-take rules zero [] h = tt
+lawful-take rules zero (a ∷ others) h = tt
+lawful-take rules (suc i) [] h = tt
+lawful-take rules (suc i) (a ∷ others) h = (h .0, lawful-take rules i others (h .1))
 
 module _ (rules : Rules) (bytes : List ℕ) where
-  abbrev itself : Event Span → Event (List ℕ)
-  itself = mapEvent (bytesOf bytes)
-
   -- a legal record gives the event that it is over the bytes, and that is legal
-  given-itself : (e : Event Span) (l : Event (List ℕ)) → legal rules bytes e ≡ gives l → (l ≡ itself e) × (isLegal rules (itself e) ≡ true)
-  given-itself e l h = let x = legal-exactly rules bytes e l .0 h in (x .2, x .1)
+  pub given-itself : (e : Event Span) (l : Event (List ℕ)) → legal rules bytes e ≡ gives l → (l ≡ mapEvent (bytesOf bytes) e) × (isLegal rules l ≡ true)
+  given-itself e l h = let x = legal-exactly rules bytes e l .0 h in (x .2, rw (x .2) (x .1))
 
-  pub all-legal : (records : List (Event Span)) → RecordsLegal rules bytes records → AllLegal rules (map itself records)
-  all-legal [] h = tt
-  all-legal (e ∷ es) h = (given-itself e (itself e) (h .0) .1, all-legal es (h .1))
+  pub records-lawful : (records : List (Event Span)) → Lawful rules (recordsJudged rules bytes records)
+  records-lawful [] = tt
+  records-lawful (r ∷ rs) = ((λ e h. given-itself r e h .1), records-lawful rs)
 
-  -- from a fact of the records to the answer
-
-  pub check-given : (i : ℕ) (records : List (Event Span)) → RecordsLegal rules bytes records → check rules bytes i records ≡ allLegal (map itself records)
-  unfolding check checkOn withEvent
-  check-given i [] h = refl
-  check-given i (e ∷ es) h = rw (h .0, check-given (i + 1) es (h .1))
-
-  pub check-first : (i k n : ℕ) (records : List (Event Span)) → FirstIllegal rules bytes records n k → check rules bytes i records ≡ illegal n (i + k)
-  unfolding check checkOn withEvent
-  check-first i zero n [] f = let z : [] ≡ f .event ∷ f .later = f .there in absurd (omega (arith, ap length z))
-  check-first i (suc k) n [] f = let z : [] ≡ f .event ∷ f .later = f .there in absurd (omega (arith, ap length z))
-  check-first i zero n (e ∷ es) f =
-      let z : e ∷ es ≡ f .event ∷ f .later = f .there in
-      let q : e ≡ f .event = cc in
-      let p : i ≡ i + 0 = omega arith in
-      rw (q, f .refused) (ap (illegal n) p)
-  check-first i (suc k) n (e ∷ es) f =
-      let more = check-first (i + 1) k n es (record { before = f .before .1; event = f .event; later = f .later; there = f .there; refused = f .refused }) in
-      let p : i + 1 + k ≡ i + suc k = omega arith in
-      rw (f .before .0, more) (ap (illegal n) p)
-
-  -- and from the answer to what it says of them
-
-  abbrev Says : ℕ → List (Event Span) → Checked → Type 0
-  Says i records (allLegal es) = RecordsLegal rules bytes records × (es ≡ map itself records)
-  Says i records (illegal n j) = (k : ℕ) × (j ≡ i + k) × FirstIllegal rules bytes records n k
-
-  one-says : (i : ℕ) (e : Event Span) (es : List (Event Span)) (a : Answer (Event (List ℕ))) → legal rules bytes e ≡ a
-      → (c : Checked) → Says (i + 1) es c → Says i (e ∷ es) (checkOn i a c)
-  unfolding checkOn withEvent
-  one-says i e es (refuses n) h c s = (zero, omega arith, record { before = tt; event = e; later = es; there = refl; refused = h })
-  one-says i e es (gives l) h (allLegal ls) s =
-      let q = given-itself e l h .0 in
-      ((h ∙ ap gives q, s .0), rw (q, s .1))
-  one-says i e es (gives l) h (illegal n j) s =
-      let f = s .2 in
-      (suc (s .0), omega (arith, s .1), record { before = (h ∙ ap gives (given-itself e l h .0), f .before); event = f .event; later = f .later; there = f .there; refused = f .refused })
-
-  check-says : (i : ℕ) (records : List (Event Span)) → Says i records (check rules bytes i records)
-  unfolding check
-  check-says i [] = (tt, refl)
-  check-says i (e ∷ es) = one-says i e es (legal rules bytes e) refl (check rules bytes (i + 1) es) (check-says (i + 1) es)
-
-  -- all are legal exactly when each record is, and they are the events that the records are over the bytes
-  pub check-legal : (i : ℕ) (records : List (Event Span)) (es : List (Event (List ℕ)))
-      → (check rules bytes i records ≡ allLegal es) ↔ (RecordsLegal rules bytes records × (es ≡ map itself records))
-  check-legal i records es =
-      ((λ e. subst (Says i records) e (check-says i records)), (λ h. check-given i records (h .0) ∙ ap allLegal (sym (h .1))))
-
-  -- the first illegal one, by its number and index
-  pub check-illegal : (records : List (Event Span)) (n k : ℕ) → (check rules bytes 0 records ≡ illegal n k) ↔ FirstIllegal rules bytes records n k
-  check-illegal records n k = (
-    (λ e. let s : Says 0 records (illegal n k) = subst (Says 0 records) e (check-says 0 records) in
-        let q : s .0 ≡ k = omega (arith, s .1) in
-        subst (FirstIllegal rules bytes records n) q (s .2)),
-    (λ f. let p : 0 + k ≡ k = omega arith in check-first 0 k n records f ∙ ap (illegal n) p),
-  )
-
-  -- as a loop finds it: so many records are legal, and so is or is not the next
-  pub legal-more : (records : List (Event Span)) (i : ℕ) (d : Event Span) {l : Event (List ℕ)} → i < length records → RecordsLegal rules bytes (take i records)
-      → legal rules bytes (getD records i d) ≡ gives l → RecordsLegal rules bytes (take (i + 1) records)
-  legal-more records i d {l} h before e = rw (add-one i) (go i records h before e) where
-    go : (i : ℕ) (records : List (Event Span)) → i < length records → RecordsLegal rules bytes (take i records)
-        → legal rules bytes (getD records i d) ≡ gives l → RecordsLegal rules bytes (take (suc i) records)
-    go zero [] h b e = absurd (omega arith)
-    go (suc i) [] h b e = absurd (omega arith)
-    go zero (r ∷ rs) h b e = (e ∙ ap gives (given-itself r l e .0), tt)
-    go (suc i) (r ∷ rs) h b e = (b .0, go i rs (omega arith) (b .1) e)
-
-  pub legal-stops : (records : List (Event Span)) (i : ℕ) (d : Event Span) {n : ℕ} → i < length records → RecordsLegal rules bytes (take i records)
-      → legal rules bytes (getD records i d) ≡ refuses n → check rules bytes 0 records ≡ illegal n i
-  legal-stops records i d {n} h before e =
-      check-illegal records n i .1 (record { before = before; event = getD records i d; later = drop (suc i) records; there = drop-cons records i d h; refused = e })
+  -- records that are legal are the events that they are over the bytes
+  pub records-themselves : (count : ℕ) (records : List (Event Span)) (es : List (Event (List ℕ))) → take count (recordsJudged rules bytes records) ≡ map gives es
+      → es ≡ listed bytes records count
+  records-themselves zero [] [] h = refl
+  records-themselves zero (r ∷ rs) [] h = refl
+  records-themselves zero [] (e ∷ es) h = absurd (omega (arith, ap length h))
+  records-themselves zero (r ∷ rs) (e ∷ es) h = absurd (omega (arith, ap length h))
+  records-themselves (suc n) [] [] h = refl
+  records-themselves (suc n) [] (e ∷ es) h = absurd (omega (arith, ap length h))
+  records-themselves (suc n) (r ∷ rs) [] h = absurd (omega (arith, ap length h))
+  records-themselves (suc n) (r ∷ rs) (e ∷ es) h =
+      let q : legal rules bytes r ≡ gives e = cc in
+      let behind : take n (recordsJudged rules bytes rs) ≡ map gives es = cc in
+      rw (given-itself r e q .0) (ap (λ (l : List (Event (List ℕ))). mapEvent (bytesOf bytes) r ∷ l) (records-themselves n rs es behind))

@@ -8,12 +8,12 @@ use lib.ListN.{length, drop, length-drop, drop-of-length-le}
 use lib.Seq.{drop-drop}
 use Rattle.smf.specs.Answer.{Rules, leniently}
 use Rattle.smf.specs.Running.{isRunning}
-use Rattle.smf.specs.Place.{Span, placeOf, Sited}
+use Rattle.smf.specs.Place.{Span, placeOf}
 use Rattle.smf.specs.Wire.{Taken, Reading, reads, refused}
 use Rattle.smf.specs.Event.{Event, mapEvent, readEvent, EventAt, eventPlaced, ReadAt, readsAt, refusedAt, placed, eventAt, bytesOf}
 use Rattle.smf.specs.Lists.{Stop, ended, full, stopped, ListTaken, ListAt, listPlaced, readMore, readList, eventsOf, listAt}
 use Rattle.smf.proofs.Answer.{by-lt, pick-test}
-use Rattle.smf.proofs.Place.{site-begun}
+use Rattle.smf.proofs.Place.{Sited, site-begun}
 use Rattle.smf.proofs.Event.{event-read, read-tail, Reached, EventReached, event-reached}
 use Rattle.smf.proofs.Lists.{more-none, more-left, more-read, more-not, list-read, list-alike}
 

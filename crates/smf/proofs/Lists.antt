@@ -11,10 +11,11 @@ use lib.Seq.{drop-drop}
 use Rattle.smf.specs.Answer.{Rules, leniently}
 use Rattle.smf.specs.Running.{isRunning}
 use Rattle.smf.specs.Wire.{Taken, taken, Reading, reads, refused, readRaw}
-use Rattle.smf.specs.Event.{Event, nameRaw, readEvent, isLegal, encodeEvent}
-use Rattle.smf.specs.Lists.{Stop, ended, full, stopped, ListTaken, stopsAt, before, goOn, readMore, readList, eventsOf, AllLegal, eventAfter, encodeList, listAfter}
+use Rattle.smf.specs.Event.{Event, nameRaw, readEvent, isLegal, encodeEvent, eventAfter}
+use Rattle.smf.specs.Lists.{Stop, ended, full, stopped, ListTaken, stopsAt, before, goOn, readMore, readList, eventsOf, encodeList, listAfter}
 use Rattle.smf.proofs.Answer.{by-test, pick-test}
 use Rattle.smf.proofs.Wire.{ReadsAlike}
+use Rattle.smf.proofs.Legal.{AllLegal}
 use Rattle.smf.proofs.Event.{event-reads-back, event-read, read-tail, event-alike}
 
 -- One event of the list

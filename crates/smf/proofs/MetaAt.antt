@@ -10,12 +10,18 @@ use lib.ListN.{length, take, drop, getD, length-drop, drop-of-length-le}
 use lib.Seq.{drop-drop, drop-cons, length-take-le}
 use Rattle.smf.specs.Answer.{pick, Answer, gives, refuses, andThen, Rules}
 use Rattle.smf.specs.Payload.{Payload, payload, readPayload}
-use Rattle.smf.specs.Place.{placeOf, Sited, Span, payloadPlaced, payloadAt}
+use Rattle.smf.specs.Place.{placeOf, Span, payloadPlaced, payloadAt}
 use Rattle.smf.specs.Kind.{Meta, midiChannel, midiPort, smpteOffset, byte, isText, trackNumberOf, narrow, timeIn, calledMeta}
 use Rattle.smf.specs.Event.{mapMeta, spanBefore, bytesOf}
-use Rattle.smf.specs.MetaAt.{MetaTaken, metaNamed, readMetaMessage, MetaAt, metaPlaced, metaAt, calledAt}
+use Rattle.smf.specs.MetaAt.{MetaTaken, metaNamed, readMetaMessage, MetaAt, metaPlaced, metaAt}
 use Rattle.smf.proofs.Answer.{pick-both, said-of, said-refused}
 use Rattle.smf.proofs.Payload.{Loaded, PayloadLoaded, payload-loaded}
+
+-- what a payload of the bytes lent is called under a type
+unfoldable pub calledAt : Rules → List ℕ → ℕ → Span → Answer MetaAt
+calledAt rules s t span =
+    andThen (calledMeta rules t (bytesOf s span))
+    (λ m. gives (record { message = mapMeta (λ p. span) m; next = span .start + span .length }))
 
 abbrev pub endOf : Span → ℕ
 endOf span = span .start + span .length

@@ -17,7 +17,7 @@ use Rattle.smf.specs.Wire.{Raw, one, two, system, typed, dataLength, enc
 use Rattle.smf.specs.Kind.{Message}
 use Rattle.smf.specs.Kind.{Meta, trackNumber, noTrackNumber, text, midiChannel, midiPort, endOfTrack, tempo, smpteOffset, sequencerSpecific, unknown}
 use Rattle.smf.specs.Kind.{Kind, midi, sysEx, escape, meta, byte, messageOne, messageTwo, isText, trackNumberOf, from, narrow, tempoOf, timeIn, signatureOf, keyOf, calledMeta, called, rawMessage, rawMeta, rawOf}
-use Rattle.smf.specs.Event.{messageFits, metaFits, kindFits, metaLoad, kindLoad, isNamed, metaMisnamed, kindMisnamed}
+use Rattle.smf.specs.Event.{messageFits, metaFits, kindFits, loadOr, metaCarries, carries, kindLoad, isNamed, misnamed, kindMisnamed}
 use Rattle.smf.proofs.Answer.{by-test, by-lt, pick-test, said-of, Alike, Gives, then-gives, alike-self, pick-alike, strictly-alike, then-alike}
 use Rattle.smf.proofs.Number.{encode-monotone}
 use Rattle.smf.proofs.Payload.{encode-payload-length}
@@ -47,7 +47,7 @@ record Says (rules : Rules) (status : ℕ) (raw : Raw) (m : Message) : Type 0 wh
 
 module _ (rules : Rules) (status : ℕ) (c : Channel status) where
   said : (raw : Raw) (m : Message) → loadOf raw ≡ [] → Says rules status raw m → Named rules raw (midi (status % 16) m)
-  unfolding kindFits kindMisnamed kindLoad rawOf
+  unfolding kindFits carries rawOf
   said raw m l h = as-read rules raw (midi (status % 16) m) (rw (lt-ltb (status % 16) 16 (omega arith), h .fits)) refl (sym l) (h .back)
 
   upper : (u : ℕ) → eqb (status / 16) u ≡ true → u * 16 + status % 16 ≡ status
@@ -93,17 +93,17 @@ module _ (rules : Rules) (t : ℕ) (p : List ℕ) where
   MetaNamed m = Named rules (typed t p) (meta m)
 
   -- a message that keeps the payload, and one that keeps what it needs of it
-  whole : (m : Meta (List ℕ)) → metaFits rules m ≡ true → metaMisnamed rules length m ≡ false → metaLoad [] m ≡ p → rawMeta m ≡ typed t p → MetaNamed m
-  unfolding kindFits kindMisnamed kindLoad rawOf
+  whole : (m : Meta (List ℕ)) → metaFits rules m ≡ true → misnamed rules length (metaCarries m) ≡ false → loadOr [] (metaCarries m) ≡ p → rawMeta m ≡ typed t p → MetaNamed m
+  unfolding kindFits carries rawOf
   whole m f o l e = as-read rules (typed t p) (meta m) f o l e
 
-  needed : (m : Meta (List ℕ)) (u : ℕ) (q : List ℕ) → metaFits rules m ≡ true → metaMisnamed rules length m ≡ false → metaLoad [] m ≡ [] → rawMeta m ≡ typed u q → length q ≤ length p → MetaNamed m
-  unfolding kindFits kindMisnamed kindLoad rawOf
+  needed : (m : Meta (List ℕ)) (u : ℕ) (q : List ℕ) → metaFits rules m ≡ true → misnamed rules length (metaCarries m) ≡ false → loadOr [] (metaCarries m) ≡ [] → rawMeta m ≡ typed u q → length q ≤ length p → MetaNamed m
+  unfolding kindFits carries rawOf
   needed m u q f o l e h =
       record { fits = f; own = o; carries = inr l; after = ap runningAfter e; shorter = λ running. rw e (typed-shorter running t u p q h) }
 
   itself : isNamed rules t (length p) ≡ false → MetaNamed (unknown t p)
-  unfolding metaFits metaMisnamed metaLoad rawMeta
+  unfolding metaFits metaCarries rawMeta
   itself o = whole (unknown t p) refl o refl refl
 
   -- a kind that is named from n bytes up, and is `Unknown` below
@@ -122,26 +122,26 @@ module _ (rules : Rules) (t : ℕ) (p : List ℕ) where
   narrow-named limit of some h = then-gives (λ (c : ℕ). c < limit) MetaNamed _ (narrow rules limit (byte p 0)) (narrow-below limit (byte p 0) some) h
 
   track-named : MetaNamed (trackNumberOf p)
-  unfolding metaFits metaMisnamed metaLoad rawMeta trackNumberOf
+  unfolding metaFits metaCarries rawMeta trackNumberOf
   track-named =
       pick-test MetaNamed (leb 2 (length p))
       (λ l. let n = byte p 0 * 256 + byte p 1 in needed (trackNumber n) 0x00 _ (lt-ltb n 65536 (omega arith)) refl refl refl (leb-true 2 (length p) l))
       (λ l. needed noTrackNumber 0x00 [] refl refl refl refl (omega arith))
 
   channel-named : 1 ≤ length p → (c : ℕ) → c < 16 → MetaNamed (midiChannel c)
-  unfolding metaFits metaMisnamed metaLoad rawMeta
+  unfolding metaFits metaCarries rawMeta
   channel-named l c h = needed (midiChannel c) 0x20 (c ∷ []) (lt-ltb c 16 h) refl refl refl l
 
   port-named : 1 ≤ length p → (c : ℕ) → c < 128 → MetaNamed (midiPort c)
-  unfolding metaFits metaMisnamed metaLoad rawMeta
+  unfolding metaFits metaCarries rawMeta
   port-named l c h = needed (midiPort c) 0x21 (c ∷ []) (lt-ltb c 128 h) refl refl refl l
 
   tempo-named : 3 ≤ length p → MetaNamed (tempoOf p)
-  unfolding metaFits metaMisnamed metaLoad rawMeta
+  unfolding metaFits metaCarries rawMeta
   tempo-named l = let v = byte p 0 * 65536 + byte p 1 * 256 + byte p 2 in needed (tempo v) 0x51 _ (lt-ltb v 16777216 (omega arith)) refl refl refl l
 
   time-named : 5 ≤ length p → Gives MetaNamed (andThen (timeIn rules p) (λ time. gives (smpteOffset time)))
-  unfolding metaFits metaMisnamed metaLoad rawMeta
+  unfolding metaFits metaCarries rawMeta
   time-named l =
       then-gives (λ (time : Time). isTime rules time ≡ true) MetaNamed _ (timeIn rules p) time-legal
       (λ time is. needed (smpteOffset time) 0x54 (timeBytes time) is refl refl refl (omega (arith, time-length time))) where
@@ -152,7 +152,7 @@ module _ (rules : Rules) (t : ℕ) (p : List ℕ) where
           by (refuses n) e = tt
 
   signature-named : 4 ≤ length p → MetaNamed (signatureOf p)
-  unfolding metaFits metaMisnamed metaLoad rawMeta
+  unfolding metaFits metaCarries rawMeta
   signature-named l =
       let below : (i : ℕ) → ltb (byte p i) 256 ≡ true = λ i. lt-ltb (byte p i) 256 (omega arith) in
       needed (signatureOf p) 0x58 _ (rw (below 0, below 1, below 2, below 3)) refl refl refl l
@@ -161,11 +161,11 @@ module _ (rules : Rules) (t : ℕ) (p : List ℕ) where
   sharps-fit b h = by-lt b 128 (λ low. rw (signed-low b low) low) (λ high. rw (signed-high b high h) (omega arith))
 
   key-named : 2 ≤ length p → MetaNamed (keyOf p)
-  unfolding metaFits metaMisnamed metaLoad rawMeta
+  unfolding metaFits metaCarries rawMeta
   key-named l = needed (keyOf p) 0x59 _ (lt-ltb _ 128 (sharps-fit (byte p 0) (omega arith))) refl refl refl l
 
   meta-named : Gives MetaNamed (calledMeta rules t p)
-  unfolding calledMeta metaFits metaMisnamed metaLoad rawMeta isNamed
+  unfolding calledMeta metaFits metaCarries rawMeta isNamed
   meta-named =
       let P = Gives MetaNamed in
       pick-test P (eqb t 0x00) (λ e. track-named)
@@ -185,7 +185,7 @@ unfolding called
 typed-named rules t p = then-gives (MetaNamed rules t p) (Named rules (typed t p)) _ (calledMeta rules t p) (meta-named rules t p) (λ m k. k)
 
 pub raw-named : (rules : Rules) (raw : Raw) → Sound raw → Gives (Named rules raw) (called rules raw)
-unfolding called kindFits kindMisnamed kindLoad rawOf
+unfolding called kindFits carries rawOf
 raw-named rules (one status a) h = said rules status (h .0) (one status a) (messageOne (status / 16) a) refl (one-said rules status (h .0) a (h .1) (h .2))
 raw-named rules (two status a b) h = said rules status (h .0) (two status a b) (messageTwo (status / 16) a b) refl (two-said rules status (h .0) a b (h .1) (h .2) (h .3))
 raw-named rules (system status p) h =
@@ -196,7 +196,7 @@ raw-named rules (typed t p) h = typed-named rules t p
 
 -- an `Unknown` is misnamed exactly when it is not called itself
 pub unnamed-exactly : (rules : Rules) (t : ℕ) (p : List ℕ) → (isNamed rules t (length p) ≡ false) ↔ (called rules (typed t p) ≡ gives (meta (unknown t p)))
-unfolding called kindMisnamed metaMisnamed
+unfolding called carries metaCarries
 unnamed-exactly rules t p = (
   λ h. rw (unnamed-itself rules t p h),
   λ e. said-of (Gives (Named rules (typed t p))) (typed-named rules t p) e .own,

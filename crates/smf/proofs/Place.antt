@@ -10,9 +10,13 @@ use borrow.Author.Tests.{le-leb, lt-leb}
 use Rattle.smf.specs.Answer.{Answer, gives, refuses, andThen, Rules, strictly}
 use Rattle.smf.specs.Number.{Numeral, numeral, readNumber}
 use Rattle.smf.specs.Payload.{Payload, payload, payloadAfter, readPayload}
-use Rattle.smf.specs.Place.{placeOf, Sited, NumberAt, numberPlaced, numberAt, Span, payloadPlaced, payloadAt}
+use Rattle.smf.specs.Place.{placeOf, NumberAt, numberPlaced, numberAt, Span, payloadPlaced, payloadAt}
 use Rattle.smf.proofs.Answer.{said-of}
 use Rattle.smf.proofs.Number.{Took, NumberTook, read-took}
+
+-- p is the place of what is left from p on: at, or one that was reached from there within the bytes
+abbrev pub Sited : List ℕ → ℕ → ℕ → Type 0
+Sited s at p = placeOf s at (drop p s) ≡ p
 
 pub site-begun : (s : List ℕ) (at : ℕ) → Sited s at at
 site-begun s at = omega arith

@@ -13,15 +13,15 @@ use borrow.Author.Tests.{lt-ltb, le-ltb, ltb-true, ltb-false, ne-eqb}
 use Rattle.smf.specs.Answer.{pick, Answer, gives, refuses, andThen, Rules}
 use Rattle.smf.specs.Number.{Numeral, numeral, readNumber}
 use Rattle.smf.specs.Payload.{Payload, payload, readPayload}
-use Rattle.smf.specs.Place.{placeOf, Sited, NumberAt, numberAt, Span, payloadAt}
+use Rattle.smf.specs.Place.{placeOf, NumberAt, numberAt, Span, payloadAt}
 use Rattle.smf.specs.Running.{isRunning}
 use Rattle.smf.specs.Wire.{RawEvent, rawEvent, Taken, taken, Reading, reads, refused, system, typed, dataLength, tableLength, readOne, readTwo, readChannel, withPayload, readMeta, readStatus, readBody, afterDelta, readRaw}
-use Rattle.smf.specs.Kind.{Meta, Kind, midi, sysEx, escape, meta, messageOne, messageTwo, messageWith, calledMeta, called}
+use Rattle.smf.specs.Kind.{Message, Meta, Kind, midi, sysEx, escape, meta, messageOne, messageTwo, calledMeta, called}
 use Rattle.smf.specs.Event.{Event, event, mapMeta, mapKind, mapEvent, named, nameRaw, spanBefore, eventPlaced, ReadAt, readsAt, refusedAt, placed, readEvent, eventAt, bytesOf}
 use Rattle.smf.specs.MetaAt.{MetaTaken, metaNamed, readMetaMessage, MetaAt, metaPlaced, metaAt}
 use Rattle.smf.proofs.Answer.{by-test, by-lt, said-of, said-refused}
 use Rattle.smf.proofs.Payload.{Loaded, PayloadLoaded, payload-loaded}
-use Rattle.smf.proofs.Place.{site-next, Reached, NumberReached, number-reached}
+use Rattle.smf.proofs.Place.{Sited, site-next, Reached, NumberReached, number-reached}
 use Rattle.smf.proofs.MetaAt.{endOf, LoadedAt, PayloadReached, payload-reached}
 
 -- an event read, with the bytes used and the running status after it
@@ -29,6 +29,10 @@ abbrev pub told : Event Span → ℕ → ℕ → ReadAt
 told e used running = readsAt (record { event = e; used = used; running = running })
 
 -- Channel statuses
+
+-- the message of a status and its data, of which C and D use the first alone
+unfoldable pub messageWith : ℕ → ℕ → ℕ → Message
+messageWith status a b = pick (eqb (dataLength status) 1) (messageOne (status / 16) a) (messageTwo (status / 16) a b)
 
 -- the table's length of a channel status is its data's
 pub channel-length : (st : ℕ) → 0x80 ≤ st → st < 0xF0 → tableLength st ≡ dataLength st

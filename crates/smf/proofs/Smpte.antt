@@ -10,7 +10,7 @@ use lib.Dec.{ltb, eqb}
 use lib.ListN.{length, getD}
 use borrow.Author.Tests.{ltb-true, ltb-false, lt-ltb, le-ltb, eqb-true, eqb-false, eq-eqb, ne-eqb}
 use Rattle.smf.specs.Answer.{pick, Answer, gives, Rules}
-use Rattle.smf.specs.Smpte.{isRate, rateOfCode, codeOfRate, Time, time, isTime, toTime, timeOf, timeBytes, seconds, frames, subframes, position, earlier}
+use Rattle.smf.specs.Smpte.{isRate, rateOfCode, codeOfRate, Time, time, isTime, toTime, timeOf, timeBytes, seconds, frames, subframes, position}
 use Rattle.smf.proofs.Answer.{by-test, by-lt, pick-test, both, given}
 
 -- what holds of the four rates holds of every rate
@@ -172,6 +172,17 @@ decides a b {p} {q} less more same =
     by-test (eqb a b) (λ e. rw e (same (eqb-true a b e)))
     (λ n. by-test (ltb a b) (λ e. rw (n, e) (lt-ltb p q (less (ltb-true a b e))))
     (λ e. rw (n, e) (le-ltb p q (omega (arith, more (omega (arith, ltb-false a b e, eqb-false a b n)))))))
+
+-- the order of times, field by field, hour first: the first field in which they differ decides
+unfoldable pub earlier : Time → Time → Bool
+earlier s t =
+    pick (eqb (s .hour) (t .hour))
+    (pick (eqb (s .minute) (t .minute))
+    (pick (eqb (s .second) (t .second))
+    (pick (eqb (s .frame) (t .frame)) (ltb (s .subframe) (t .subframe)) (ltb (s .frame) (t .frame)))
+    (ltb (s .second) (t .second)))
+    (ltb (s .minute) (t .minute)))
+    (ltb (s .hour) (t .hour))
 
 -- positions of legal times of one rate are ordered as the times are
 pub positions-ordered :

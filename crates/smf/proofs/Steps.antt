@@ -9,9 +9,10 @@ use lib.ListN.{length, drop}
 use borrow.Author.Tests.{leb-true, leb-false}
 use Rattle.smf.specs.Answer.{Rules}
 use Rattle.smf.specs.Running.{isRunning}
-use Rattle.smf.specs.Place.{Span, Sited}
+use Rattle.smf.specs.Place.{Span}
 use Rattle.smf.specs.Event.{Event, EventAt, ReadAt, readsAt, refusedAt, eventAt}
 use Rattle.smf.specs.Lists.{Stop, ended, full, stopped, readMore, ListAt, listPlaced, listAt, Reader, Next, takes, stops, stepOn, nextAt}
+use Rattle.smf.proofs.Place.{Sited}
 use Rattle.smf.proofs.Answer.{pick-test}
 use Rattle.smf.proofs.Event.{Reached, EventReached, event-reached}
 use Rattle.smf.proofs.ListPlaces.{stopsThere, inFront, list-begun, more-end, more-full, more-refused, more-step, more-next}

@@ -12,6 +12,10 @@ pub data Answer (A : Type 0) : Type 0 where
   gives : A → Answer A
   refuses : ℕ → Answer A
 
+-- a test that must hold: else what is asked for is refused by this number
+abbrev pub unless : {A : Type 0} → Bool → ℕ → Answer A → Answer A
+unless test n a = pick test a (refuses n)
+
 -- go on with the value; a refusal stays what it is
 abbrev pub andThen : {A B : Type 0} → Answer A → (A → Answer B) → Answer B
 andThen (gives a) f = f a

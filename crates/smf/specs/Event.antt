@@ -6,11 +6,11 @@ use Prim.Native.Nat.{ℕ, _+_, _-_, _^_}
 use lib.Dec.{ltb, leb, eqb}
 use lib.Signed.{mag}
 use lib.ListN.{length, take, drop}
-use Rattle.smf.specs.Answer.{pick, Answer, gives, refuses, andThen, Rules}
+use Rattle.smf.specs.Answer.{pick, Answer, gives, refuses, unless, Rules}
 use Rattle.smf.specs.Running.{isRunning}
 use Rattle.smf.specs.Place.{Span, placeOf}
 use Rattle.smf.specs.Smpte.{isTime}
-use Rattle.smf.specs.Write.{Written, left, write}
+use Rattle.smf.specs.Write.{Written, left, put}
 use Rattle.smf.specs.Wire.{Raw, RawEvent, rawEvent, Taken, taken, Reading, reads, refused, readRaw, encodeRawEvent, runningAfter}
 use Rattle.smf.specs.Kind.{Message, noteOff, noteOn, aftertouch, controller, programChange, channelAftertouch, pitchBend}
 use Rattle.smf.specs.Kind.{Meta, trackNumber, noTrackNumber, text, midiChannel, midiPort, endOfTrack, tempo, smpteOffset, timeSignature, keySignature, sequencerSpecific, unknown}
@@ -127,26 +127,40 @@ kindFits rules (sysEx p) = true
 kindFits rules (escape p) = true
 kindFits rules (meta m) = metaFits rules m
 
--- what stands for the payload, of the kinds that carry one; else another
-unfoldable pub metaLoad : {P : Type 0} → P → Meta P → P
-metaLoad none (trackNumber n) = none
-metaLoad none noTrackNumber = none
-metaLoad none (text t p) = p
-metaLoad none (midiChannel c) = none
-metaLoad none (midiPort c) = none
-metaLoad none endOfTrack = none
-metaLoad none (tempo v) = none
-metaLoad none (smpteOffset time) = none
-metaLoad none (timeSignature a b c d) = none
-metaLoad none (keySignature sharps minor) = none
-metaLoad none (sequencerSpecific p) = p
-metaLoad none (unknown t p) = p
+-- what a kind carries: no payload; one under the kind's own name; or one that an `Unknown` names by its type
+pub data Carried (P : Type 0) : Type 0 where
+  nothing : Carried P
+  owned : P → Carried P
+  untold : ℕ → P → Carried P
 
-unfoldable pub kindLoad : {P : Type 0} → P → Kind P → P
-kindLoad none (midi channel message) = none
-kindLoad none (sysEx p) = p
-kindLoad none (escape p) = p
-kindLoad none (meta m) = metaLoad none m
+unfoldable pub metaCarries : {P : Type 0} → Meta P → Carried P
+metaCarries (trackNumber n) = nothing
+metaCarries noTrackNumber = nothing
+metaCarries (text t p) = owned p
+metaCarries (midiChannel c) = nothing
+metaCarries (midiPort c) = nothing
+metaCarries endOfTrack = nothing
+metaCarries (tempo v) = nothing
+metaCarries (smpteOffset time) = nothing
+metaCarries (timeSignature a b c d) = nothing
+metaCarries (keySignature sharps minor) = nothing
+metaCarries (sequencerSpecific p) = owned p
+metaCarries (unknown t p) = untold t p
+
+unfoldable pub carries : {P : Type 0} → Kind P → Carried P
+carries (midi channel message) = nothing
+carries (sysEx p) = owned p
+carries (escape p) = owned p
+carries (meta m) = metaCarries m
+
+-- what stands for the payload, where there is one; else another
+abbrev pub loadOr : {P : Type 0} → P → Carried P → P
+loadOr none nothing = none
+loadOr none (owned p) = p
+loadOr none (untold t p) = p
+
+abbrev pub kindLoad : {P : Type 0} → P → Kind P → P
+kindLoad none k = loadOr none (carries k)
 
 -- document 01, refusal 19: a range not inside the payload bytes; start beyond the end counts even at length 0
 unfoldable pub inside : List ℕ → Span → Bool
@@ -169,26 +183,14 @@ isNamed rules t n =
     || (eqb t 0x54 && leb 5 n)
     || (eqb t 0x58 && leb 4 n)
 
--- an `Unknown` that would read as a named kind or be refused as 59, by its payload's length
-unfoldable pub metaMisnamed : {P : Type 0} → Rules → (P → ℕ) → Meta P → Bool
-metaMisnamed rules size (trackNumber n) = false
-metaMisnamed rules size noTrackNumber = false
-metaMisnamed rules size (text t p) = false
-metaMisnamed rules size (midiChannel c) = false
-metaMisnamed rules size (midiPort c) = false
-metaMisnamed rules size endOfTrack = false
-metaMisnamed rules size (tempo v) = false
-metaMisnamed rules size (smpteOffset time) = false
-metaMisnamed rules size (timeSignature a b c d) = false
-metaMisnamed rules size (keySignature sharps minor) = false
-metaMisnamed rules size (sequencerSpecific p) = false
-metaMisnamed rules size (unknown t p) = isNamed rules t (size p)
+-- an `Unknown` that would read as a named kind, or be refused as 59 is, by its payload's length
+abbrev pub misnamed : {P : Type 0} → Rules → (P → ℕ) → Carried P → Bool
+misnamed rules size nothing = false
+misnamed rules size (owned p) = false
+misnamed rules size (untold t p) = isNamed rules t (size p)
 
-unfoldable pub kindMisnamed : {P : Type 0} → Rules → (P → ℕ) → Kind P → Bool
-kindMisnamed rules size (midi channel message) = false
-kindMisnamed rules size (sysEx p) = false
-kindMisnamed rules size (escape p) = false
-kindMisnamed rules size (meta m) = metaMisnamed rules size m
+abbrev pub kindMisnamed : {P : Type 0} → Rules → (P → ℕ) → Kind P → Bool
+kindMisnamed rules size k = misnamed rules size (carries k)
 
 -- what is legal of the event itself
 unfoldable pub isLegal : Rules → Event (List ℕ) → Bool
@@ -204,23 +206,22 @@ noSpan = record { start = 0; length = 0 }
 abbrev pub spanLength : Span → ℕ
 spanLength span = span .length
 
--- the event that a record is over given payload bytes: 18, 19, 22, 23 in that order where it is none
+-- the event that a record is over given payload bytes; where it is none, the first of these numbers whose test does not hold
 unfoldable pub legal : Rules → List ℕ → Event Span → Answer (Event (List ℕ))
 legal rules bytes e =
-    pick (ltb (e .delta) (2 ^ 28) && kindFits rules (e .kind))
-    (pick (inside bytes (kindLoad noSpan (e .kind)))
-    (pick (ltb (spanLength (kindLoad noSpan (e .kind))) (2 ^ 28))
-    (pick (kindMisnamed rules spanLength (e .kind)) (refuses 23) (gives (mapEvent (bytesOf bytes) e)))
-    (refuses 22))
-    (refuses 19))
-    (refuses 18)
+    unless (ltb (e .delta) (2 ^ 28) && kindFits rules (e .kind)) 18
+    (unless (inside bytes (kindLoad noSpan (e .kind))) 19
+    (unless (ltb (spanLength (kindLoad noSpan (e .kind))) (2 ^ 28)) 22
+    (unless (not (kindMisnamed rules spanLength (e .kind))) 23
+    (gives (mapEvent (bytesOf bytes) e)))))
 
 -- the shortest bytes of an event, from a running status
 unfoldable pub encodeEvent : ℕ → Event (List ℕ) → List ℕ
 encodeEvent running e = encodeRawEvent running (rawEvent (e .delta) (rawOf (e .kind)))
 
-unfoldable pub eventBytes : Rules → ℕ → List ℕ → Event Span → Answer (List ℕ)
-eventBytes rules running bytes e = andThen (legal rules bytes e) (λ l. gives (encodeEvent running l))
+-- the running status after an event
+abbrev pub eventAfter : Event (List ℕ) → ℕ
+eventAfter e = runningAfter (rawOf (e .kind))
 
 -- what writing an event leaves in the buffer and answers, and the running status after it; as given where it is refused
 pub record EventWritten : Type 0 where
@@ -234,11 +235,18 @@ runningLeft before after (refuses n) = before
 abbrev pub eventWritten : ℕ → ℕ → Written → EventWritten
 eventWritten before after w = record { written = w; running = runningLeft before after (w .answer) }
 
--- document 01: 1, then 18, 19, 22, 23, then 20; a refused write changes no byte and no running status
-unfoldable pub writeEvent : Rules → ℕ → List ℕ → Event Span → List ℕ → ℕ → EventWritten
-writeEvent rules running bytes e buffer at =
-    eventWritten running (runningAfter (rawOf (mapKind (bytesOf bytes) (e .kind))))
-    (pick (isRunning running) (write (eventBytes rules running bytes e) buffer at) (left buffer 1))
+-- a refused write changes no byte and no running status
+abbrev pub eventLeft : ℕ → List ℕ → ℕ → EventWritten
+eventLeft running buffer n = record { written = left buffer n; running = running }
+
+-- an event as it was judged: what forbids it comes before 20, where there is no room for it
+unfoldable pub writeJudged : ℕ → Answer (Event (List ℕ)) → List ℕ → ℕ → EventWritten
+writeJudged running (gives e) buffer at = eventWritten running (eventAfter e) (put (encodeEvent running e) buffer at)
+writeJudged running (refuses n) buffer at = eventLeft running buffer n
+
+-- document 01: 1 comes first
+unfoldable pub writeEvent : ℕ → Answer (Event (List ℕ)) → List ℕ → ℕ → EventWritten
+writeEvent running judged buffer at = pick (isRunning running) (writeJudged running judged buffer at) (eventLeft running buffer 1)
 
 -- document 01, "Lists": two events are the same when deltas, kinds, fields and payload bytes agree; starts don't count
 abbrev pub Same : List ℕ → Event Span → List ℕ → Event Span → Type 0

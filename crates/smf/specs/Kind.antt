@@ -58,10 +58,6 @@ messageTwo upper a b =
     (pick (eqb upper 0xB) (controller a b)
     (pitchBend (a + 128 * b)))))
 
--- the message of a status and its data, of which C and D use the first alone
-unfoldable pub messageWith : ℕ → ℕ → ℕ → Message
-messageWith status a b = pick (eqb (dataLength status) 1) (messageOne (status / 16) a) (messageTwo (status / 16) a b)
-
 -- document 01: 01..09 the text kinds
 unfoldable pub isText : ℕ → Bool
 isText t = pick (leb 0x01 t) (leb t 0x09) false

@@ -9,9 +9,9 @@ use Rattle.smf.specs.Answer.{pick, Answer, gives, refuses, Rules}
 use Rattle.smf.specs.Running.{isRunning}
 use Rattle.smf.specs.Place.{Span, placeOf}
 use Rattle.smf.specs.Write.{over}
-use Rattle.smf.specs.Wire.{Taken, Reading, reads, refused, runningAfter}
-use Rattle.smf.specs.Kind.{meta, endOfTrack, rawOf}
-use Rattle.smf.specs.Event.{Event, event, mapEvent, bytesOf, readEvent, eventPlaced, ReadAt, readsAt, refusedAt, eventAt, isLegal, legal, encodeEvent}
+use Rattle.smf.specs.Wire.{Taken, Reading, reads, refused}
+use Rattle.smf.specs.Kind.{meta, endOfTrack}
+use Rattle.smf.specs.Event.{Event, event, mapEvent, bytesOf, readEvent, eventPlaced, ReadAt, readsAt, refusedAt, eventAt, legal, encodeEvent, eventAfter}
 
 -- Reading
 
@@ -133,20 +133,11 @@ pub record ReadsAs (rules : Rules) (most running : ℕ) (s : List ℕ) (es : Lis
 
 -- Writing
 
--- each event of a list is legal; each record is, over given payload bytes
-abbrev pub AllLegal : Rules → List (Event (List ℕ)) → Type 0
-AllLegal rules [] = Unit {0}
-AllLegal rules (e ∷ es) = (isLegal rules e ≡ true) × AllLegal rules es
+-- records as they are judged over given payload bytes: each the event that it is, or the number that forbids it
+abbrev pub recordsJudged : Rules → List ℕ → List (Event Span) → List (Answer (Event (List ℕ)))
+recordsJudged rules bytes records = map (legal rules bytes) records
 
-abbrev pub RecordsLegal : Rules → List ℕ → List (Event Span) → Type 0
-RecordsLegal rules bytes [] = Unit {0}
-RecordsLegal rules bytes (e ∷ es) = (legal rules bytes e ≡ gives (mapEvent (bytesOf bytes) e)) × RecordsLegal rules bytes es
-
--- the events that counted records are, over given payload bytes
-abbrev pub listed : List ℕ → List (Event Span) → ℕ → List (Event (List ℕ))
-listed bytes records count = map (mapEvent (bytesOf bytes)) (take count records)
-
--- the events that records are over given payload bytes, or the first that is illegal: its number, and its index
+-- the events that were judged, or the first that is illegal: its number, and its index
 pub data Checked : Type 0 where
   allLegal : List (Event (List ℕ)) → Checked
   illegal : (number index : ℕ) → Checked
@@ -160,13 +151,9 @@ checkOn i (gives e) others = withEvent e others
 checkOn i (refuses n) others = illegal n i
 
 -- counted from i on
-unfoldable pub check : Rules → List ℕ → ℕ → List (Event Span) → Checked
-check rules bytes i [] = allLegal []
-check rules bytes i (e ∷ es) = checkOn i (legal rules bytes e) (check rules bytes (i + 1) es)
-
--- the running status after an event
-abbrev pub eventAfter : Event (List ℕ) → ℕ
-eventAfter e = runningAfter (rawOf (e .kind))
+unfoldable pub check : ℕ → List (Answer (Event (List ℕ))) → Checked
+check i [] = allLegal []
+check i (j ∷ js) = checkOn i j (check (i + 1) js)
 
 -- the shortest bytes of a list, from a running status, and the running status after it
 unfoldable pub encodeList : ℕ → List (Event (List ℕ)) → List ℕ
@@ -194,11 +181,11 @@ unfoldable pub sizeChecked : ℕ → Checked → ListSize
 sizeChecked running (allLegal es) = record { answer = wrote (length (encodeList running es)); running = listAfter running es }
 sizeChecked running (illegal n i) = unsized running n i
 
--- document 01: 1, 21, then the first illegal event; records past the count are not looked at
-unfoldable pub sizeList : Rules → ℕ → ℕ → List ℕ → List (Event Span) → ℕ → ListSize
-sizeList rules most running bytes records count =
+-- document 01: 1, 21, then the first illegal event; what stands past the count is not looked at
+unfoldable pub sizeList : ℕ → ℕ → List (Answer (Event (List ℕ))) → ℕ → ListSize
+sizeList most running judged count =
     pick (isRunning running)
-    (pick (leb count most) (sizeChecked running (check rules bytes 0 (take count records))) (unsized running 21 0))
+    (pick (leb count most) (sizeChecked running (check 0 (take count judged))) (unsized running 21 0))
     (unsized running 1 0)
 
 -- what it leaves in the buffer, what it answers, and the running status after it
@@ -222,14 +209,18 @@ unfoldable pub writeChecked : ℕ → List ℕ → Checked → ListWritten
 writeChecked running buffer (allLegal es) = listPut running buffer es
 writeChecked running buffer (illegal n i) = listLeft running buffer n i
 
--- document 01: 1, 21, then the first illegal event, then 20; records past the count are not looked at
-unfoldable pub writeList : Rules → ℕ → ℕ → List ℕ → List (Event Span) → ℕ → List ℕ → ListWritten
-writeList rules most running bytes records count buffer =
+-- document 01: 1, 21, then the first illegal event, then 20; what stands past the count is not looked at
+unfoldable pub writeList : ℕ → ℕ → List (Answer (Event (List ℕ))) → ℕ → List ℕ → ListWritten
+writeList most running judged count buffer =
     pick (isRunning running)
-    (pick (leb count most) (writeChecked running buffer (check rules bytes 0 (take count records))) (listLeft running buffer 21 0))
+    (pick (leb count most) (writeChecked running buffer (check 0 (take count judged))) (listLeft running buffer 21 0))
     (listLeft running buffer 1 0)
 
 -- Sameness
+
+-- the events that counted records are, over given payload bytes
+abbrev pub listed : List ℕ → List (Event Span) → ℕ → List (Event (List ℕ))
+listed bytes records count = map (mapEvent (bytesOf bytes)) (take count records)
 
 -- a count and the events that it counts, over the payload bytes
 pub record Counted : Type 0 where

@@ -31,9 +31,3 @@ metaPlaced s at t = record { message = mapMeta (spanBefore (placeOf s at (t .res
 
 unfoldable pub metaAt : Rules → List ℕ → ℕ → Answer MetaAt
 metaAt rules s at = andThen (readMetaMessage rules (drop at s)) (λ t. gives (metaPlaced s at t))
-
--- what a payload of the bytes lent is called under a type
-unfoldable pub calledAt : Rules → List ℕ → ℕ → Span → Answer MetaAt
-calledAt rules s t span =
-    andThen (calledMeta rules t (bytesOf s span))
-    (λ m. gives (record { message = mapMeta (λ p. span) m; next = span .start + span .length }))

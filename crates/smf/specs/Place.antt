@@ -11,10 +11,6 @@ use Rattle.smf.specs.Payload.{Payload, readPayload}
 abbrev pub placeOf : List ℕ → ℕ → List ℕ → ℕ
 placeOf s at rest = at + (length (drop at s) - length rest)
 
--- p is the place of what is left from p on: at, or one that was reached from there within the bytes
-abbrev pub Sited : List ℕ → ℕ → ℕ → Type 0
-Sited s at p = placeOf s at (drop p s) ≡ p
-
 -- a number read at a place, and the place after it
 pub record NumberAt : Type 0 where
   pub value : ℕ

@@ -78,14 +78,3 @@ subframes t = frames t * 100 + t .subframe
 -- document 01: the position of a time, in subframes; 13 outside its ranges
 unfoldable pub position : Rules → Time → Answer ℕ
 position rules t = pick (isTime rules t) (gives (subframes t)) (refuses 13)
-
--- the order of times, field by field, hour first: the first field in which they differ decides
-unfoldable pub earlier : Time → Time → Bool
-earlier s t =
-    pick (eqb (s .hour) (t .hour))
-    (pick (eqb (s .minute) (t .minute))
-    (pick (eqb (s .second) (t .second))
-    (pick (eqb (s .frame) (t .frame)) (ltb (s .subframe) (t .subframe)) (ltb (s .frame) (t .frame)))
-    (ltb (s .second) (t .second)))
-    (ltb (s .minute) (t .minute)))
-    (ltb (s .hour) (t .hour))

@@ -7,11 +7,11 @@ use native.Mathlib.Omega.{arith}
 use lib.ListN.{length, drop, length-append, length-map}
 use Rattle.smf.specs.Answer.{Rules}
 use Rattle.smf.specs.Running.{isRunning}
-use Rattle.smf.specs.Place.{Span, Sited}
+use Rattle.smf.specs.Place.{Span}
 use Rattle.smf.specs.Event.{Event}
 use Rattle.smf.specs.Lists as smf
 use Rattle.smf.specs.Lists.{readList, eventFrom, ListAt, listAt, Reader, nextAt}
-use Rattle.smf.proofs.Place.{site-begun}
+use Rattle.smf.proofs.Place.{Sited, site-begun}
 use Rattle.smf.proofs.Lists.{list-read}
 use Rattle.smf.proofs.Steps.{listFrom, readerAt, Took, Stepped, list-from, next-stepped}
 use Rattle.event.specs.Event.{eventOf}

@@ -1,6 +1,6 @@
 -- What stands behind the delta of each kind, by its own tests alone.
 use mathlib.Core.Path.{_≡_, refl, sym, ap, _∙_}
-use mathlib.Core.Bool.{Bool, true, false, _&&_}
+use mathlib.Core.Bool.{Bool, true, false, _&&_, not}
 use mathlib.Core.List.{List, [], _∷_}
 use Prim.Native.Nat.{ℕ, _+_, _/_, _%_, _^_, _<_}
 use native.Mathlib.Omega.{arith}
@@ -9,7 +9,7 @@ use lib.IntN.{ℤ}
 use lib.ListN.{length}
 use lib.Signed.{mag}
 use borrow.Author.Tests.{le-leb, lt-ltb, le-ltb}
-use Rattle.smf.specs.Answer.{pick, Answer, gives, refuses, andThen, Rules}
+use Rattle.smf.specs.Answer.{pick, Answer, gives, refuses, unless, andThen, Rules}
 use Rattle.smf.specs.Place.{Span}
 use Rattle.smf.specs.Signed.{byteOfSigned}
 use Rattle.smf.specs.Smpte.{Time, isTime, timeBytes, encodeTime}
@@ -17,18 +17,18 @@ use Rattle.smf.specs.Wire as wire
 use Rattle.smf.specs.Wire.{rawEvent}
 use Rattle.smf.specs.Kind.{Message, Meta, trackNumber, noTrackNumber, text, midiChannel, midiPort, endOfTrack, tempo, smpteOffset, timeSignature, keySignature, sequencerSpecific, unknown}
 use Rattle.smf.specs.Kind.{Kind, midi, sysEx, escape, meta, isText, rawMessage, rawMeta, rawOf}
-use Rattle.smf.specs.Event.{Event, event, messageFits, metaFits, kindFits, metaLoad, kindLoad, inside, metaMisnamed, kindMisnamed, isNamed, noSpan, spanLength, mapMeta, mapKind, mapEvent, bytesOf, legal}
+use Rattle.smf.specs.Event.{Event, event, messageFits, metaFits, kindFits, loadOr, metaCarries, carries, kindLoad, inside, misnamed, kindMisnamed, isNamed, noSpan, spanLength, mapMeta, mapKind, mapEvent, bytesOf, legal}
 use Rattle.smf.proofs.Answer.{by-test, by-lt, given}
 use Rattle.base.specs.declared.Refusal.{Refusal}
 use Rattle.header.specs.Smpte.{encodedSmpteTime}
 use Rattle.header.specs.declared.smpte.EncodedSmpteTime.{EncodedSmpteTime}
 use Rattle.header.specs.declared.smpte.EncodedSmpteTime.the-variants.{Bytes, Refused}
-use Rattle.write.specs.Raw.{rawLegal, rawKind, lent}
+use Rattle.write.specs.Raw.{rawJudged, rawKind, lent}
 
 -- the tests of legality in their order, over whatever they are made on
 abbrev judged : {A : Type 0} → Bool → Bool → Bool → Bool → A → Answer A
 judged fits within short misnamed x =
-    pick fits (pick within (pick short (pick misnamed (refuses 23) (gives x)) (refuses 22)) (refuses 19)) (refuses 18)
+    unless fits 18 (unless within 19 (unless short 22 (unless (not misnamed) 23 (gives x))))
 
 -- what is made of what they give
 made : {A B : Type 0} (f : A → B) (x : A) (fits within short misnamed : Bool)
@@ -53,8 +53,8 @@ module _ (rules : Rules) (bytes : List ℕ) where
 
   -- a delta in front of it
   pub behind-delta : (delta : ℕ) (k : Kind Span)
-      → rawLegal rules bytes (event delta k) ≡ pick (ltb delta (2 ^ 28)) (andThen (rawKind rules bytes k) (λ raw. gives (rawEvent delta raw))) (refuses 18)
-  unfolding rawLegal legal mapEvent
+      → rawJudged (legal rules bytes (event delta k)) ≡ pick (ltb delta (2 ^ 28)) (andThen (rawKind rules bytes k) (λ raw. gives (rawEvent delta raw))) (refuses 18)
+  unfolding rawJudged legal mapEvent
   behind-delta delta k =
       made (λ (l : Event (List ℕ)). rawEvent (l .delta) (rawOf (l .kind))) (mapEvent (bytesOf bytes) (event delta k)) (ltb delta (2 ^ 28) && kindFits rules k) (inside bytes (kindLoad noSpan k))
       (ltb (spanLength (kindLoad noSpan k)) (2 ^ 28)) (kindMisnamed rules spanLength k)
@@ -76,79 +76,79 @@ module _ (rules : Rules) (bytes : List ℕ) where
   empty = le-leb 0 (length bytes) (omega arith)
 
   pub midi-made : (channel : ℕ) (m : Message) → rawKind rules bytes (midi channel m) ≡ pick (ltb channel 16 && messageFits rules m) (gives (rawMessage channel m)) (refuses 18)
-  unfolding kindFits kindLoad kindMisnamed mapKind rawOf
+  unfolding kindFits carries mapKind rawOf
   midi-made channel m = kind-judged (midi channel m) ∙ rw empty
 
   -- F0 and F7
   pub sys-ex-made : (p : Span) → rawKind rules bytes (sysEx p) ≡ lent bytes p (wire.system 0xF0 (bytesOf bytes p))
-  unfolding kindFits kindLoad kindMisnamed mapKind rawOf lent
+  unfolding kindFits carries mapKind rawOf lent
   sys-ex-made p = kind-judged (sysEx p)
 
   pub escape-made : (p : Span) → rawKind rules bytes (escape p) ≡ lent bytes p (wire.system 0xF7 (bytesOf bytes p))
-  unfolding kindFits kindLoad kindMisnamed mapKind rawOf lent
+  unfolding kindFits carries mapKind rawOf lent
   escape-made p = kind-judged (escape p)
 
   -- metas with a payload
   pub text-made : (t : ℕ) (p : Span) → isText t ≡ true → rawKind rules bytes (meta (text t p)) ≡ lent bytes p (wire.typed t (bytesOf bytes p))
-  unfolding kindFits metaFits kindLoad metaLoad kindMisnamed metaMisnamed mapKind mapMeta rawOf rawMeta lent
+  unfolding kindFits metaFits carries metaCarries mapKind mapMeta rawOf rawMeta lent
   text-made t p f = kind-judged (meta (text t p)) ∙ rw f
 
   pub sequencer-made : (p : Span) → rawKind rules bytes (meta (sequencerSpecific p)) ≡ lent bytes p (wire.typed 0x7F (bytesOf bytes p))
-  unfolding kindFits metaFits kindLoad metaLoad kindMisnamed metaMisnamed mapKind mapMeta rawOf rawMeta lent
+  unfolding kindFits metaFits carries metaCarries mapKind mapMeta rawOf rawMeta lent
   sequencer-made p = kind-judged (meta (sequencerSpecific p))
 
   pub unknown-made : (t : ℕ) (p : Span)
-      → rawKind rules bytes (meta (unknown t p)) ≡ andThen (lent bytes p (wire.typed t (bytesOf bytes p))) (λ raw. pick (isNamed rules t (p .length)) (refuses 23) (gives raw))
-  unfolding kindFits metaFits kindLoad metaLoad kindMisnamed metaMisnamed mapKind mapMeta rawOf rawMeta lent
+      → rawKind rules bytes (meta (unknown t p)) ≡ andThen (lent bytes p (wire.typed t (bytesOf bytes p))) (λ raw. unless (not (isNamed rules t (p .length))) 23 (gives raw))
+  unfolding kindFits metaFits carries metaCarries mapKind mapMeta rawOf rawMeta lent
   unknown-made t p =
       kind-judged (meta (unknown t p)) ∙ by (inside bytes p) (ltb (p .length) (2 ^ 28)) where
         by : (within short : Bool)
             → judged true within short (isNamed rules t (p .length)) (wire.typed t (bytesOf bytes p))
-            ≡ andThen (pick within (pick short (gives (wire.typed t (bytesOf bytes p))) (refuses 22)) (refuses 19)) (λ raw. pick (isNamed rules t (p .length)) (refuses 23) (gives raw))
+            ≡ andThen (pick within (pick short (gives (wire.typed t (bytesOf bytes p))) (refuses 22)) (refuses 19)) (λ raw. unless (not (isNamed rules t (p .length))) 23 (gives raw))
         by true true = refl
         by true false = refl
         by false short = refl
 
   -- metas with none
-  own-made : (m : Meta Span) → metaLoad noSpan m ≡ noSpan → metaMisnamed rules spanLength m ≡ false
+  own-made : (m : Meta Span) → loadOr noSpan (metaCarries m) ≡ noSpan → misnamed rules spanLength (metaCarries m) ≡ false
       → rawKind rules bytes (meta m) ≡ pick (metaFits rules m) (gives (rawMeta (mapMeta (bytesOf bytes) m))) (refuses 18)
-  unfolding kindFits kindLoad kindMisnamed mapKind rawOf
+  unfolding kindFits carries mapKind rawOf
   own-made m l n = kind-judged (meta m) ∙ rw (l, n, empty)
 
   pub number-made : (n : ℕ) → rawKind rules bytes (meta (trackNumber n)) ≡ pick (ltb n 65536) (gives (wire.typed 0x00 (n / 256 ∷ n % 256 ∷ []))) (refuses 18)
-  unfolding metaLoad metaMisnamed metaFits mapMeta rawMeta
+  unfolding metaCarries metaFits mapMeta rawMeta
   number-made n = own-made (trackNumber n) refl refl
 
   pub none-made : rawKind rules bytes (meta noTrackNumber) ≡ gives (wire.typed 0x00 [])
-  unfolding metaLoad metaMisnamed metaFits mapMeta rawMeta
+  unfolding metaCarries metaFits mapMeta rawMeta
   none-made = own-made noTrackNumber refl refl
 
   pub channel-made : (c : ℕ) → rawKind rules bytes (meta (midiChannel c)) ≡ pick (ltb c 16) (gives (wire.typed 0x20 (c ∷ []))) (refuses 18)
-  unfolding metaLoad metaMisnamed metaFits mapMeta rawMeta
+  unfolding metaCarries metaFits mapMeta rawMeta
   channel-made c = own-made (midiChannel c) refl refl
 
   pub port-made : (c : ℕ) → rawKind rules bytes (meta (midiPort c)) ≡ pick (ltb c 128) (gives (wire.typed 0x21 (c ∷ []))) (refuses 18)
-  unfolding metaLoad metaMisnamed metaFits mapMeta rawMeta
+  unfolding metaCarries metaFits mapMeta rawMeta
   port-made c = own-made (midiPort c) refl refl
 
   pub end-made : rawKind rules bytes (meta endOfTrack) ≡ gives (wire.typed 0x2F [])
-  unfolding metaLoad metaMisnamed metaFits mapMeta rawMeta
+  unfolding metaCarries metaFits mapMeta rawMeta
   end-made = own-made endOfTrack refl refl
 
   pub tempo-made : (v : ℕ) → rawKind rules bytes (meta (tempo v)) ≡ pick (ltb v 16777216) (gives (wire.typed 0x51 (v / 256 / 256 ∷ v / 256 % 256 ∷ v % 256 ∷ []))) (refuses 18)
-  unfolding metaLoad metaMisnamed metaFits mapMeta rawMeta
+  unfolding metaCarries metaFits mapMeta rawMeta
   tempo-made v = own-made (tempo v) refl refl
 
   pub time-made : (t : Time) → rawKind rules bytes (meta (smpteOffset t)) ≡ pick (isTime rules t) (gives (wire.typed 0x54 (timeBytes t))) (refuses 18)
-  unfolding metaLoad metaMisnamed metaFits mapMeta rawMeta
+  unfolding metaCarries metaFits mapMeta rawMeta
   time-made t = own-made (smpteOffset t) refl refl
 
   pub signature-made : (a b c d : ℕ) → rawKind rules bytes (meta (timeSignature a b c d)) ≡ pick (ltb a 256 && ltb b 256 && ltb c 256 && ltb d 256) (gives (wire.typed 0x58 (a ∷ b ∷ c ∷ d ∷ []))) (refuses 18)
-  unfolding metaLoad metaMisnamed metaFits mapMeta rawMeta
+  unfolding metaCarries metaFits mapMeta rawMeta
   signature-made a b c d = own-made (timeSignature a b c d) refl refl
 
   pub key-made : (sharps : ℤ) (minor : Bool) → rawKind rules bytes (meta (keySignature sharps minor)) ≡ pick (ltb (mag sharps) 128) (gives (wire.typed 0x59 (byteOfSigned sharps ∷ pick minor 1 0 ∷ []))) (refuses 18)
-  unfolding metaLoad metaMisnamed metaFits mapMeta rawMeta
+  unfolding metaCarries metaFits mapMeta rawMeta
   key-made sharps minor = own-made (keySignature sharps minor) refl refl
 
   -- fields that have a whole byte are within it

@@ -12,5 +12,5 @@ pub mod Most
 pub mod Measuring
 pub mod Writing
 pub mod Sizes
-pub mod RowRecords
+pub mod Judging
 pub mod Identical

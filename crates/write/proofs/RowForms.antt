@@ -16,12 +16,12 @@ use Rattle.smf.specs.Wire as wire
 use Rattle.smf.specs.Wire.{rawEvent}
 use Rattle.smf.specs.Kind as kind
 use Rattle.smf.specs.Kind.{isText}
-use Rattle.smf.specs.Event.{event, messageFits}
+use Rattle.smf.specs.Event.{messageFits, legal}
 use Rattle.smf.proofs.Answer.{by-test, by-lt, both, pick-test, given}
 use Rattle.smf.proofs.Signed.{signed-low, signed-high}
 use Rattle.rows.specs.Rows.{width}
-use Rattle.rows.specs.RowEvent.{areBytes, fieldsFit, cell, isRow, rowMessage, rowMeta, rowKind, rowSpan, calledRow, noRecord, rowRecord}
-use Rattle.write.specs.Raw.{rawLegal, rawKind, dataOf}
+use Rattle.rows.specs.RowEvent.{areBytes, fieldsFit, cell, isRow, rowMessage, rowMeta, rowKind, rowSpan, calledRow, eventOfRow, rowJudged}
+use Rattle.write.specs.Raw.{rawJudged, rawKind, dataOf}
 use Rattle.write.proofs.Forms.{behind-delta, midi-made, bend-fits}
 
 -- a test that another one implies need not be made before it
@@ -167,26 +167,41 @@ pub rate-given : (rate r : ℕ) → gives r ≡ toRate rate → (isRate rate ≡
 unfolding toRate
 rate-given rate r h = given (isRate rate) rate 16 (sym h)
 
--- the record that a row is to writers
+-- what writers make of a row
 module _ (rules : Rules) (bytes : List ℕ) (r : List ℕ) where
-  pub row-wide : 2 ^ 28 ≤ cell r 0 → refuses 18 ≡ rawLegal rules bytes (rowRecord r)
-  unfolding rowRecord calledRow
+  row-called : isRow r ≡ true → rawJudged (rowJudged rules bytes r) ≡ rawJudged (legal rules bytes (calledRow r))
+  unfolding rowJudged eventOfRow
+  row-called t = rw t
+
+  row-none : isRow r ≡ false → rawJudged (rowJudged rules bytes r) ≡ refuses 18
+  unfolding rowJudged eventOfRow rawJudged
+  row-none t = rw t
+
+  pub row-wide : 2 ^ 28 ≤ cell r 0 → refuses 18 ≡ rawJudged (rowJudged rules bytes r)
+  unfolding calledRow
   row-wide h =
-      pick-test (λ e. refuses 18 ≡ rawLegal rules bytes e) (isRow r)
-      (λ t. rw (behind-delta rules bytes (cell r 0), le-ltb (cell r 0) (2 ^ 28) h))
-      (λ t. rw (behind-delta rules bytes (2 ^ 28) (kind.meta kind.endOfTrack)))
+      by-test (isRow r)
+      (λ t. rw (row-called t, behind-delta rules bytes (cell r 0), le-ltb (cell r 0) (2 ^ 28) h))
+      (λ t. sym (row-none t))
+
+  abbrev fields : Bool
+  fields = fieldsFit (cell r 1) (cell r 2) (cell r 3) (cell r 4) (cell r 5) (cell r 6) (cell r 7)
 
   abbrev made : Answer wire.Raw
   made =
       pick (fieldsFit (cell r 1) (cell r 2) (cell r 3) (cell r 4) (cell r 5) (cell r 6) (cell r 7))
       (rawKind rules bytes (rowKind (cell r 1) (cell r 2) (cell r 3) (cell r 4) (cell r 5) (cell r 6) (cell r 7) (rowSpan r))) (refuses 18)
 
+  is-fields : width ≤ length r → cell r 0 < 2 ^ 32 → isRow r ≡ fields
+  unfolding isRow
+  is-fields long wide = rw (le-leb width (length r) long, lt-ltb (cell r 0) (2 ^ 32) wide)
+
   pub row-narrow : width ≤ length r → cell r 0 < 2 ^ 28
-      → rawLegal rules bytes (rowRecord r) ≡ pick (ltb (cell r 0) (2 ^ 28)) (andThen made (λ raw. gives (rawEvent (cell r 0) raw))) (refuses 18)
-  unfolding rowRecord isRow calledRow
+      → rawJudged (rowJudged rules bytes r) ≡ pick (ltb (cell r 0) (2 ^ 28)) (andThen made (λ raw. gives (rawEvent (cell r 0) raw))) (refuses 18)
+  unfolding calledRow
   row-narrow long h =
       let wide : cell r 0 < 2 ^ 32 = omega (arith, h) in
-      rw (le-leb width (length r) long, lt-ltb (cell r 0) (2 ^ 32) wide)
-      (by-test (fieldsFit (cell r 1) (cell r 2) (cell r 3) (cell r 4) (cell r 5) (cell r 6) (cell r 7))
-      (λ t. rw t (behind-delta rules bytes (cell r 0) (rowKind (cell r 1) (cell r 2) (cell r 3) (cell r 4) (cell r 5) (cell r 6) (cell r 7) (rowSpan r))))
-      (λ t. rw (t, lt-ltb (cell r 0) (2 ^ 28) h) (behind-delta rules bytes (2 ^ 28) (kind.meta kind.endOfTrack))))
+      let all = is-fields long wide in
+      by-test fields
+      (λ t. rw (row-called (all ∙ t), t) (behind-delta rules bytes (cell r 0) (rowKind (cell r 1) (cell r 2) (cell r 3) (cell r 4) (cell r 5) (cell r 6) (cell r 7) (rowSpan r))))
+      (λ t. rw (row-none (all ∙ t), t, lt-ltb (cell r 0) (2 ^ 28) h))

@@ -27,11 +27,11 @@ use Rattle.write.specs.declared.raw.RawEvent.{RawEvent}
 use Rattle.write.specs.declared.raw.Judged.{Judged}
 use Rattle.write.specs.declared.raw.Judged.the-variants as judged
 
--- the raw event of a record that is legal over given payload bytes, and the number of one that is not: 18, 19, 22, 23 in that order
-unfoldable pub rawLegal : Rules → List ℕ → Event Span → Answer wire.RawEvent
-rawLegal rules bytes e = andThen (legal rules bytes e) (λ l. gives (rawEvent (l .delta) (rawOf (l .kind))))
+-- the raw event of an event that was judged; the number of one that is forbidden stays what it is
+unfoldable pub rawJudged : Answer (Event (List ℕ)) → Answer wire.RawEvent
+rawJudged judged = andThen judged (λ e. gives (rawEvent (e .delta) (rawOf (e .kind))))
 
--- the same of a kind alone, as if it had no delta
+-- the raw form of a kind that is legal over given payload bytes, as if it had no delta; 18, 19, 22, 23 in that order
 unfoldable pub rawKind : Rules → List ℕ → Kind Span → Answer wire.Raw
 rawKind rules bytes k = andThen (legal rules bytes (event 0 k)) (λ l. gives (rawOf (l .kind)))
 
@@ -116,9 +116,9 @@ rawAfter (raw.Fixed t own) = 0
 -- What the steps behind the doors go by
 
 -- an event that a door let through has a short delta, and its payload is there
-abbrev pub Told : List ℕ → Judged → Type 0
-Told bytes (judged.Raw e) = (e .delta .0 < 2 ^ 28) × (isSound bytes (e .raw) ≡ true)
-Told bytes (judged.Refused n) = Unit
+abbrev pub LetThrough : List ℕ → Judged → Type 0
+LetThrough bytes (judged.Raw e) = (e .delta .0 < 2 ^ 28) × (isSound bytes (e .raw) ≡ true)
+LetThrough bytes (judged.Refused n) = Unit
 
 -- a range that is inside the bytes lent, and short enough for a number
 pub record Inside (bytes : List ℕ) (span : Span) : Type 0 where

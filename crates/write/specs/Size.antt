@@ -8,7 +8,7 @@ use Rattle.smf.specs.Place.{Span}
 use Rattle.smf.specs.Wire.{RawEvent, encodeRawEvent, runningAfter}
 use Rattle.smf.specs.Event.{Event}
 use Rattle.base.specs.Refusal.{numberOf}
-use Rattle.write.specs.Raw.{rawLegal}
+use Rattle.write.specs.Raw.{rawJudged}
 use Rattle.write.specs.declared.answer.Size as answer
 use Rattle.write.specs.declared.answer.EventLength.{EventLength}
 use Rattle.write.specs.declared.answer.EventLength.the-variants as event
@@ -32,10 +32,10 @@ lengthSaid (event.Refused n) = refuses (numberOf n)
 abbrev pub rawSize : ℕ → RawEvent → Size
 rawSize running e = size (length (encodeRawEvent running e)) (runningAfter (e .raw))
 
--- of an event over the bytes lent: 18, 19, 22, 23 in that order where it is illegal
-unfoldable pub eventSize : Rules → ℕ → List ℕ → Event Span → Answer Size
-eventSize rules running bytes e = andThen (rawLegal rules bytes e) (λ raw. gives (rawSize running raw))
+-- of an event as it was judged
+unfoldable pub eventSize : ℕ → Answer (Event (List ℕ)) → Answer Size
+eventSize running judged = andThen (rawJudged judged) (λ raw. gives (rawSize running raw))
 
 -- the same from a running status that is looked at first: 1 where it is invalid
-unfoldable pub sizeEvent : Rules → ℕ → List ℕ → Event Span → Answer Size
-sizeEvent rules running bytes e = pick (isRunning running) (eventSize rules running bytes e) (refuses 1)
+unfoldable pub sizeEvent : ℕ → Answer (Event (List ℕ)) → Answer Size
+sizeEvent running judged = pick (isRunning running) (eventSize running judged) (refuses 1)

@@ -8,12 +8,13 @@ ghost use lib.Dec.{ltb};
 ghost use Rattle.smf.specs.Answer.{pick, gives, refuses};
 ghost use Rattle.smf.specs.Wire as wire;
 ghost use Rattle.smf.specs.Kind.{midi, meta};
+ghost use Rattle.smf.specs.Event.{legal};
 ghost use Rattle.base.specs.Rules.{rulesOf};
 ghost use Rattle.midi.specs.Midi.{messageOf};
 ghost use Rattle.meta.specs.Meta.{numberMeta, metaOf};
 ghost use Rattle.event.specs.Event.{kindOf, eventOf};
 ghost use Rattle.smf.specs.Answer as smf;
-ghost use Rattle.write.specs.Raw.{madeSaid, judgedSaid, rawKind, rawLegal};
+ghost use Rattle.write.specs.Raw.{madeSaid, judgedSaid, rawKind, rawJudged};
 use crate::make::key;
 use crate::make::narrow;
 use crate::make::own_bytes;
@@ -125,7 +126,7 @@ fn kind(kind: TrackEventKind, rules: Rules, bytes: &[u8]) -> Made
 }
 
 pub fn event_raw(event: TrackEvent, rules: Rules, bytes: &[u8]) -> Judged
-    ensures { λ r. ⌜ judgedSaid (now (bytes .entry)) r ≡ rawLegal (rulesOf rules) (now (bytes .entry)) (eventOf event) ⌝ }
+    ensures { λ r. ⌜ judgedSaid (now (bytes .entry)) r ≡ rawJudged (legal (rulesOf rules) (now (bytes .entry)) (eventOf event)) ⌝ }
 {
     let kind = event.kind;
     behind(event.delta, crate::event_door::kind(kind, rules, bytes))

@@ -1,12 +1,12 @@
 // What stands behind a delta, made of its numbers. Both doors come here, so that each form is judged and made in one place:
 // a number above its width is 18, a payload that is not there 19, one too long 22, an `Unknown` that has a name 23.
 ghost use mathlib.Core.Path.{_≡_};
-ghost use mathlib.Core.Bool.{_&&_};
+ghost use mathlib.Core.Bool.{_&&_, not};
 ghost use mathlib.Core.List.{List, [], _∷_};
 ghost use Prim.Native.Nat.{ℕ, _+_, _*_, _/_, _%_, _≤_, _<_};
 ghost use lib.Dec.{ltb, eqb};
 ghost use lib.ListN.{take};
-ghost use Rattle.smf.specs.Answer.{pick, gives, refuses, andThen};
+ghost use Rattle.smf.specs.Answer.{pick, gives, refuses, unless, andThen};
 ghost use Rattle.smf.specs.Wire as wire;
 ghost use Rattle.smf.specs.Kind.{smpteOffset, meta};
 ghost use Rattle.smf.specs.Event.{bytesOf, isNamed};
@@ -215,7 +215,7 @@ fn is_named(type_byte: u8, n: usize, rules: Rules) -> bool
 
 // FF, a type that is to be no named kind's, and a payload. The name is looked for last.
 pub fn unknown(type_byte: u8, load: Range, rules: Rules, bytes: &[u8]) -> Made
-    ensures { λ r. ⌜ madeSaid (now (bytes .entry)) r ≡ andThen (lent (now (bytes .entry)) (spanOf load) (wire.typed «type_byte» (bytesOf (now (bytes .entry)) (spanOf load)))) (λ raw. pick (isNamed (rulesOf rules) «type_byte» (load .length)) (refuses 23) (gives raw)) ⌝ }
+    ensures { λ r. ⌜ madeSaid (now (bytes .entry)) r ≡ andThen (lent (now (bytes .entry)) (spanOf load) (wire.typed «type_byte» (bytesOf (now (bytes .entry)) (spanOf load)))) (λ raw. unless (not (isNamed (rulesOf rules) «type_byte» (load .length))) 23 (gives raw)) ⌝ }
 {
     match look(load, bytes) {
         Looked::Refused(refusal) => Made::Refused(refusal),

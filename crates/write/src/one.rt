@@ -1,9 +1,9 @@
 // One event, measured and written: the Rust's `TrackEvent::write`.
 ghost use mathlib.Core.Path.{_≡_};
-ghost use Rattle.smf.specs.Event.{writeEvent};
+ghost use Rattle.smf.specs.Event.{legal, writeEvent};
 ghost use Rattle.base.specs.Rules.{rulesOf};
 ghost use Rattle.event.specs.Event.{eventOf};
-ghost use Rattle.rows.specs.RowEvent.{rowRecord};
+ghost use Rattle.rows.specs.RowEvent.{rowJudged};
 ghost use Rattle.write.specs.Size.{lengthSaid, sizeEvent};
 ghost use Rattle.write.specs.Wrote.{wroteEvent};
 use crate::answer::EventLength;
@@ -21,7 +21,7 @@ use rows::WIDTH;
 
 // How many bytes an event has from a running status, and the running status after it.
 pub fn event_length(event: TrackEvent, running: Running, rules: Rules, bytes: &[u8]) -> EventLength
-    ensures { λ r. ⌜ lengthSaid r ≡ sizeEvent (rulesOf rules) (running .status) (now (bytes .entry)) (eventOf event) ⌝ }
+    ensures { λ r. ⌜ lengthSaid r ≡ sizeEvent (running .status) (legal (rulesOf rules) (now (bytes .entry)) (eventOf event)) ⌝ }
 {
     if !running.is_valid() {
         return EventLength::Refused(Refusal::RunningStatus); // the event is not looked at
@@ -38,7 +38,7 @@ pub fn write_event(
     out: &mut [u8],
     at: usize,
 ) -> WroteEvent
-    ensures { λ r. ⌜ wroteEvent r (now (out .exit)) ≡ writeEvent (rulesOf rules) (running .status) (now (bytes .entry)) (eventOf event) (now (out .entry)) at ⌝ }
+    ensures { λ r. ⌜ wroteEvent r (now (out .exit)) ≡ writeEvent (running .status) (legal (rulesOf rules) (now (bytes .entry)) (eventOf event)) (now (out .entry)) at ⌝ }
 {
     if !running.is_valid() {
         return WroteEvent::Refused(WriteRefused {
@@ -51,7 +51,7 @@ pub fn write_event(
 
 // The same of a row's event.
 pub fn row_length(row: [u64; WIDTH], running: Running, rules: Rules, bytes: &[u8]) -> EventLength
-    ensures { λ r. ⌜ lengthSaid r ≡ sizeEvent (rulesOf rules) (running .status) (now (bytes .entry)) (rowRecord row) ⌝ }
+    ensures { λ r. ⌜ lengthSaid r ≡ sizeEvent (running .status) (rowJudged (rulesOf rules) (now (bytes .entry)) row) ⌝ }
 {
     if !running.is_valid() {
         return EventLength::Refused(Refusal::RunningStatus); // the row is not looked at
@@ -67,7 +67,7 @@ pub fn write_row(
     out: &mut [u8],
     at: usize,
 ) -> WroteEvent
-    ensures { λ r. ⌜ wroteEvent r (now (out .exit)) ≡ writeEvent (rulesOf rules) (running .status) (now (bytes .entry)) (rowRecord row) (now (out .entry)) at ⌝ }
+    ensures { λ r. ⌜ wroteEvent r (now (out .exit)) ≡ writeEvent (running .status) (rowJudged (rulesOf rules) (now (bytes .entry)) row) (now (out .entry)) at ⌝ }
 {
     if !running.is_valid() {
         return WroteEvent::Refused(WriteRefused {

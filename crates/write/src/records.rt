@@ -3,12 +3,12 @@ ghost use mathlib.Core.Path.{_≡_};
 ghost use mathlib.Core.List.{map};
 ghost use Prim.Native.Nat.{_≤_};
 ghost use lib.ListN.{take, length};
-ghost use Rattle.smf.specs.Write.{over};
-ghost use Rattle.smf.specs.Lists.{RecordsLegal, listed, check, encodeList, sizeChecked, sizeList, writeList};
+ghost use Rattle.smf.specs.Event.{legal};
+ghost use Rattle.smf.specs.Lists.{recordsJudged, check, sizeChecked, sizeList, writeList};
 ghost use Rattle.base.specs.Rules.{rulesOf};
 ghost use Rattle.track.specs.List.{capacity, recordOf};
-ghost use Rattle.write.specs.Raw.{judgedSaid, rawLegal};
-ghost use Rattle.write.specs.ListAnswers.{sizeSaid, wroteList};
+ghost use Rattle.write.specs.Raw.{judgedSaid, rawJudged};
+ghost use Rattle.write.specs.ListAnswers.{sizeSaid, wroteList, RoomFor, InFront};
 use crate::answer::EventLength;
 use crate::answer::ListLength;
 use crate::answer::ListRefused;
@@ -29,7 +29,7 @@ use track::list::Record;
 
 // The event of a record, through its door.
 fn record_raw(kept: Record, rules: Rules, bytes: &[u8]) -> Judged
-    ensures { λ r. ⌜ judgedSaid (now (bytes .entry)) r ≡ rawLegal (rulesOf rules) (now (bytes .entry)) (recordOf kept) ⌝ }
+    ensures { λ r. ⌜ judgedSaid (now (bytes .entry)) r ≡ rawJudged (legal (rulesOf rules) (now (bytes .entry)) (recordOf kept)) ⌝ }
 {
     let event = kept.event;
     event_raw(event, rules, bytes)
@@ -38,7 +38,7 @@ fn record_raw(kept: Record, rules: Rules, bytes: &[u8]) -> Judged
 // Of a list that counts no more than it holds.
 fn measure_records(list: EventList, running: Running, rules: Rules, bytes: &[u8]) -> ListLength
     requires { ⌜ list .count ≤ capacity ⌝ }
-    ensures { λ r. ⌜ sizeSaid r ≡ sizeChecked (running .status) (check (rulesOf rules) (now (bytes .entry)) 0 (take (list .count) (map recordOf (list .records)))) ⌝ }
+    ensures { λ r. ⌜ sizeSaid r ≡ sizeChecked (running .status) (check 0 (take (list .count) (recordsJudged (rulesOf rules) (now (bytes .entry)) (map recordOf (list .records))))) ⌝ }
 {
     let count = list.count;
     let mut length: usize = 0;
@@ -68,7 +68,7 @@ fn measure_records(list: EventList, running: Running, rules: Rules, bytes: &[u8]
 }
 
 pub fn list_length(list: EventList, running: Running, rules: Rules, bytes: &[u8]) -> ListLength
-    ensures { λ r. ⌜ sizeSaid r ≡ sizeList (rulesOf rules) capacity (running .status) (now (bytes .entry)) (map recordOf (list .records)) (list .count) ⌝ }
+    ensures { λ r. ⌜ sizeSaid r ≡ sizeList capacity (running .status) (recordsJudged (rulesOf rules) (now (bytes .entry)) (map recordOf (list .records))) (list .count) ⌝ }
 {
     if !running.is_valid() {
         return refused(Refusal::RunningStatus, running);
@@ -81,8 +81,9 @@ pub fn list_length(list: EventList, running: Running, rules: Rules, bytes: &[u8]
 
 // One event behind the other, of a list that is legal and has room.
 fn put_records(list: EventList, running: Running, rules: Rules, bytes: &[u8], out: &mut [u8])
-    requires { ⌜ RecordsLegal (rulesOf rules) (now bytes) (take (list .count) (map recordOf (list .records))) × (list .count ≤ capacity) × (length (encodeList (running .status) (listed (now bytes) (map recordOf (list .records)) (list .count))) ≤ length (now out)) ⌝ }
-    ensures { λ r. ⌜ now (out .exit) ≡ over (encodeList (running .status) (listed (now (bytes .entry)) (map recordOf (list .records)) (list .count))) (now (out .entry)) 0 ⌝ }
+    requires { ⌜ list .count ≤ capacity ⌝ }
+    requires { ⌜ RoomFor (running .status) (take (list .count) (recordsJudged (rulesOf rules) (now bytes) (map recordOf (list .records)))) (length (now out)) ⌝ }
+    ensures { λ r. ⌜ InFront (running .status) (take (list .count) (recordsJudged (rulesOf rules) (now (bytes .entry)) (map recordOf (list .records)))) (now (out .entry)) (now (out .exit)) ⌝ }
 {
     let count = list.count;
     let mut place: usize = 0;
@@ -109,7 +110,7 @@ pub fn write_list(
     bytes: &[u8],
     out: &mut [u8],
 ) -> WroteList
-    ensures { λ r. ⌜ wroteList r (now (out .exit)) ≡ writeList (rulesOf rules) capacity (running .status) (now (bytes .entry)) (map recordOf (list .records)) (list .count) (now (out .entry)) ⌝ }
+    ensures { λ r. ⌜ wroteList r (now (out .exit)) ≡ writeList capacity (running .status) (recordsJudged (rulesOf rules) (now (bytes .entry)) (map recordOf (list .records))) (list .count) (now (out .entry)) ⌝ }
 {
     match list_length(list, running, rules, bytes) {
         ListLength::Refused(n) => WroteList::Refused(n),

@@ -12,8 +12,8 @@ ghost use Rattle.smf.specs.Kind as kind;
 ghost use Rattle.smf.specs.Signed.{signedByte};
 ghost use Rattle.base.specs.Rules.{rulesOf};
 ghost use Rattle.meta.specs.Meta.{spanOf};
-ghost use Rattle.rows.specs.RowEvent.{areBytes, timeFits, fieldsFit, rowNumber, rowMessage, rowMeta, rowKind, rowRecord};
-ghost use Rattle.write.specs.Raw.{dataOf, madeSaid, judgedSaid, rawKind, rawLegal};
+ghost use Rattle.rows.specs.RowEvent.{areBytes, timeFits, fieldsFit, rowNumber, rowMessage, rowMeta, rowKind, rowJudged};
+ghost use Rattle.write.specs.Raw.{dataOf, madeSaid, judgedSaid, rawKind, rawJudged};
 use crate::make::channel;
 use crate::make::key;
 use crate::make::narrow;
@@ -36,6 +36,7 @@ use header::SmpteTime;
 use header::rate::TriedFps;
 use number::u28;
 use rows::WIDTH;
+use rows::back::are_bytes;
 
 // The data bytes of a channel message's row: a bend is one number there.
 pub struct Data {
@@ -74,24 +75,6 @@ fn message(number: u64, a: u64, b: u64, c: u64) -> Made
     }
     let data = data_of(number, b, c);
     channel(number, a, data.pair, data.a, data.b)
-}
-
-fn are_bytes(a: u64, b: u64, c: u64, d: u64, e: u64) -> bool
-    ensures { λ r. ⌜ r ≡ areBytes a b c d e ⌝ }
-{
-    if 256 <= a {
-        return false;
-    }
-    if 256 <= b {
-        return false;
-    }
-    if 256 <= c {
-        return false;
-    }
-    if 256 <= d {
-        return false;
-    }
-    e < 256
 }
 
 fn number(there: u64, number: u64) -> Made
@@ -224,7 +207,7 @@ fn row_made(
 }
 
 pub fn row_raw(row: [u64; WIDTH], rules: Rules, bytes: &[u8]) -> Judged
-    ensures { λ r. ⌜ judgedSaid (now (bytes .entry)) r ≡ rawLegal (rulesOf rules) (now (bytes .entry)) (rowRecord row) ⌝ }
+    ensures { λ r. ⌜ judgedSaid (now (bytes .entry)) r ≡ rawJudged (rowJudged (rulesOf rules) (now (bytes .entry)) row) ⌝ }
 {
     let delta = row[0];
     if 0x1000_0000 <= delta {

@@ -1,17 +1,16 @@
-// A list of rows, measured, and written into a lent buffer from its first byte on: as the list of records that the rows
-// are, with no record made. A row that is not all there is no event's, as any other that is none: 18.
+// A list of rows, measured, and written into a lent buffer from its first byte on: each row through its door, with no
+// event made. A row that is not all there is no event's, as any other that is none: 18.
 ghost use mathlib.Core.Path.{_≡_};
 ghost use Prim.Native.Nat.{_+_, _*_, _≤_};
 ghost use lib.ListN.{take, drop, length};
-ghost use Rattle.smf.specs.Write.{over};
-ghost use Rattle.smf.specs.Lists.{RecordsLegal, listed, check, encodeList, sizeChecked, sizeList, writeList};
+ghost use Rattle.smf.specs.Lists.{check, sizeChecked, sizeList, writeList};
 ghost use Rattle.base.specs.Rules.{rulesOf};
 ghost use Rattle.track.specs.List.{capacity};
 ghost use Rattle.rows.specs.Rows.{width};
-ghost use Rattle.rows.specs.RowEvent.{rowRecord};
-ghost use Rattle.rows.specs.RowLists.{rowRecords};
-ghost use Rattle.write.specs.Raw.{judgedSaid, rawLegal};
-ghost use Rattle.write.specs.ListAnswers.{sizeSaid, wroteList};
+ghost use Rattle.rows.specs.RowEvent.{rowJudged};
+ghost use Rattle.rows.specs.RowLists.{rowsJudged};
+ghost use Rattle.write.specs.Raw.{judgedSaid, rawJudged};
+ghost use Rattle.write.specs.ListAnswers.{sizeSaid, wroteList, RoomFor, InFront};
 use crate::answer::EventLength;
 use crate::answer::ListLength;
 use crate::answer::ListRefused;
@@ -45,7 +44,7 @@ fn cells_at(rows: &[u64], at: usize) -> [u64; WIDTH]
 
 // The row that starts at a cell, through its door.
 fn judge_at(rows: &[u64], at: usize, rules: Rules, bytes: &[u8]) -> Judged
-    ensures { λ r. ⌜ judgedSaid (now (bytes .entry)) r ≡ rawLegal (rulesOf rules) (now (bytes .entry)) (rowRecord (take width (drop at (now (rows .entry))))) ⌝ }
+    ensures { λ r. ⌜ judgedSaid (now (bytes .entry)) r ≡ rawJudged (rowJudged (rulesOf rules) (now (bytes .entry)) (take width (drop at (now (rows .entry))))) ⌝ }
 {
     if rows.len() < WIDTH {
         return Judged::Refused(Refusal::AboveWidth);
@@ -65,7 +64,7 @@ fn measure_rows(
     bytes: &[u8],
 ) -> ListLength
     requires { ⌜ count ≤ capacity ⌝ }
-    ensures { λ r. ⌜ sizeSaid r ≡ sizeChecked (running .status) (check (rulesOf rules) (now (bytes .entry)) 0 (take count (rowRecords count (now (rows .entry))))) ⌝ }
+    ensures { λ r. ⌜ sizeSaid r ≡ sizeChecked (running .status) (check 0 (take count (rowsJudged (rulesOf rules) (now (bytes .entry)) count (now (rows .entry))))) ⌝ }
 {
     let mut length: usize = 0;
     let mut status = running.status;
@@ -100,7 +99,7 @@ pub fn rows_length(
     rules: Rules,
     bytes: &[u8],
 ) -> ListLength
-    ensures { λ r. ⌜ sizeSaid r ≡ sizeList (rulesOf rules) capacity (running .status) (now (bytes .entry)) (rowRecords count (now (rows .entry))) count ⌝ }
+    ensures { λ r. ⌜ sizeSaid r ≡ sizeList capacity (running .status) (rowsJudged (rulesOf rules) (now (bytes .entry)) count (now (rows .entry))) count ⌝ }
 {
     if !running.is_valid() {
         return refused(Refusal::RunningStatus, running);
@@ -120,8 +119,9 @@ fn put_rows(
     bytes: &[u8],
     out: &mut [u8],
 )
-    requires { ⌜ RecordsLegal (rulesOf rules) (now bytes) (take count (rowRecords count (now rows))) × (count ≤ capacity) × (length (encodeList (running .status) (listed (now bytes) (rowRecords count (now rows)) count)) ≤ length (now out)) ⌝ }
-    ensures { λ r. ⌜ now (out .exit) ≡ over (encodeList (running .status) (listed (now (bytes .entry)) (rowRecords count (now (rows .entry))) count)) (now (out .entry)) 0 ⌝ }
+    requires { ⌜ count ≤ capacity ⌝ }
+    requires { ⌜ RoomFor (running .status) (take count (rowsJudged (rulesOf rules) (now bytes) count (now rows))) (length (now out)) ⌝ }
+    ensures { λ r. ⌜ InFront (running .status) (take count (rowsJudged (rulesOf rules) (now (bytes .entry)) count (now (rows .entry)))) (now (out .entry)) (now (out .exit)) ⌝ }
 {
     let mut place: usize = 0;
     let mut status = running.status;
@@ -148,7 +148,7 @@ pub fn write_rows(
     bytes: &[u8],
     out: &mut [u8],
 ) -> WroteList
-    ensures { λ r. ⌜ wroteList r (now (out .exit)) ≡ writeList (rulesOf rules) capacity (running .status) (now (bytes .entry)) (rowRecords count (now (rows .entry))) count (now (out .entry)) ⌝ }
+    ensures { λ r. ⌜ wroteList r (now (out .exit)) ≡ writeList capacity (running .status) (rowsJudged (rulesOf rules) (now (bytes .entry)) count (now (rows .entry))) count (now (out .entry)) ⌝ }
 {
     match rows_length(rows, count, running, rules, bytes) {
         ListLength::Refused(n) => WroteList::Refused(n),

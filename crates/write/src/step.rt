@@ -1,7 +1,7 @@
 // The two steps behind the doors, of one event and of each event of a list alike: how long it is, and its bytes put.
 ghost use mathlib.Core.Path.{_≡_};
 ghost use Rattle.smf.specs.Answer.{gives, andThen};
-ghost use Rattle.write.specs.Raw.{judgedSaid, Told};
+ghost use Rattle.write.specs.Raw.{judgedSaid, LetThrough};
 ghost use Rattle.write.specs.Size.{lengthSaid, rawSize};
 ghost use Rattle.write.specs.Wrote.{wroteEvent, writeRaw};
 use crate::answer::EventLength;
@@ -17,7 +17,7 @@ use base::Refusal;
 use base::Running;
 
 pub fn measured(judged: Judged, running: Running, bytes: &[u8]) -> EventLength
-    requires { ⌜ Told (now bytes) judged ⌝ }
+    requires { ⌜ LetThrough (now bytes) judged ⌝ }
     ensures { λ r. ⌜ lengthSaid r ≡ andThen (judgedSaid (now (bytes .entry)) judged) (λ raw. gives (rawSize (running .status) raw)) ⌝ }
 {
     match judged {
@@ -34,7 +34,7 @@ pub fn written(
     out: &mut [u8],
     at: usize,
 ) -> WroteEvent
-    requires { ⌜ Told (now bytes) judged ⌝ }
+    requires { ⌜ LetThrough (now bytes) judged ⌝ }
     ensures { λ r. ⌜ wroteEvent r (now (out .exit)) ≡ writeRaw (running .status) (judgedSaid (now (bytes .entry)) judged) (now (out .entry)) at ⌝ }
 {
     match judged {

@@ -1,7 +1,8 @@
 -- `read` meets its contract, arm by arm.
 use borrow.Author.Tests.{ne-eqb}
 use Rattle.smf.specs.Wire.{dataLength}
-use Rattle.smf.specs.Kind.{messageOne, messageTwo, messageWith}
+use Rattle.smf.specs.Kind.{messageOne, messageTwo}
+use Rattle.smf.proofs.Reading.{messageWith}
 use borrow.Author.Needs.{needs}
 use Rattle.event.proofs.message.read.Statement.{statement}
 use Rattle.event.proofs.message.read.Tie as tie

@@ -2,10 +2,11 @@
 use mathlib.Core.Path.{_≡_, refl, sym, ap, subst, _∙_}
 use borrow.Author.Needs.{needs}
 use borrow.Author.Tests.{lt-ltb, le-ltb, eq-eqb, ne-eqb, le-leb, lt-leb, leb-true, not-true, not-false}
+use Rattle.smf.specs.Event.{legal}
 use Rattle.base.specs.Rules.{rulesOf}
 use Rattle.event.specs.Event.{eventOf}
 use Rattle.write.specs.Size.{eventSize, sizeEvent}
-use Rattle.write.proofs.Doors.{told}
+use Rattle.write.proofs.Doors.{legal-number, told}
 use Rattle.write.proofs.one.event_length.Statement.{statement}
 use Rattle.write.proofs.one.event_length.Tie as tie
 
@@ -14,7 +15,7 @@ unfolding sizeEvent
 returns c = rw (← c .before .is-valid .ensures, not-true (c .before .is-valid .result) (c .if1 .taken))
 
 measured-requires : tie.Need-measured-requires
-measured-requires c κs = let a = c .before .before .before .before .args in told (rulesOf (a .rules)) (a .bytes .now) (eventOf (a .event)) (c .event-raw .result) (c .event-raw .ensures)
+measured-requires c κs = let a = c .before .before .before .before .args in told (a .bytes .now) (legal (rulesOf (a .rules)) (a .bytes .now) (eventOf (a .event))) (legal-number (rulesOf (a .rules)) (a .bytes .now) (eventOf (a .event))) (c .event-raw .result) (c .event-raw .ensures)
 
 returns-2 : tie.Need-returns-2
 unfolding sizeEvent eventSize

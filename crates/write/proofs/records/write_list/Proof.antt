@@ -4,12 +4,12 @@ use mathlib.Core.List.{List, map}
 use Prim.Native.Nat.{ℕ}
 use native.Mathlib.Omega.{arith}
 use borrow.Author.Needs.{needs}
-use Rattle.smf.specs.Lists.{wrote, sizeList}
+use Rattle.smf.specs.Lists.{recordsJudged, wrote, sizeList}
 use Rattle.base.specs.Refusal.{numberOf}
 use Rattle.base.specs.Rules.{rulesOf}
 use Rattle.track.specs.List.{capacity, recordOf}
 use Rattle.write.specs.ListAnswers.{sizeSaid}
-use Rattle.write.proofs.Sizes.{unsized-left, sized-legal, sized-few, sized-own, sized-full, sized-put}
+use Rattle.write.proofs.Sizes.{unsized-left, sized-few, sized-fits, sized-full, sized-put}
 use Rattle.write.proofs.records.write_list.Statement.{statement}
 use Rattle.write.proofs.records.write_list.Tie as tie
 
@@ -17,7 +17,7 @@ use Rattle.write.proofs.records.write_list.Tie as tie
 size-there : (c : tie.After-size)
     → let a = c .before .before .before .before .before .args in
     let s = c .size .given .0 .0 in
-    record { answer = wrote (s .length); running = s .running .status } ≡ sizeList (rulesOf (a .rules)) capacity (a .running .status) (a .bytes .now) (map recordOf (a .list .records)) (a .list .count)
+    record { answer = wrote (s .length); running = s .running .status } ≡ sizeList capacity (a .running .status) (recordsJudged (rulesOf (a .rules)) (a .bytes .now) (map recordOf (a .list .records))) (a .list .count)
 size-there c =
     let a = c .before .before .before .before .before .args in
     sym (ap sizeSaid (c .size .given .1)) ∙ c .before .before .list-length .ensures
@@ -27,24 +27,22 @@ returns c =
     let z = c .before .before .before in
     let a = z .before .before .before .before .before .args in
     let s = z .size .given .0 .0 in
-    sized-full (rulesOf (a .rules)) capacity (a .running .status) (a .bytes .now) (map recordOf (a .list .records)) (a .list .count) (a .out .now) (s .length) (s .running .status) (size-there z) (c .if1 .taken)
+    sized-full capacity (a .running .status) (recordsJudged (rulesOf (a .rules)) (a .bytes .now) (map recordOf (a .list .records))) (a .list .count) (a .out .now) (s .length) (s .running .status) (size-there z) (c .if1 .taken)
 
 put-records-requires : tie.Need-put-records-requires
 put-records-requires c κs =
     let z = c .before .before .before .before in
     let a = z .before .before .before .before .before .args in
-    let s = z .size .given .0 .0 in
-    let own = sized-own (rulesOf (a .rules)) capacity (a .running .status) (a .bytes .now) (map recordOf (a .list .records)) (a .list .count) (a .out .now) (s .length) (s .running .status) (size-there z) in (
-      sized-legal (rulesOf (a .rules)) capacity (a .running .status) (a .bytes .now) (map recordOf (a .list .records)) (a .list .count) (a .out .now) (s .length) (s .running .status) (size-there z),
-      sized-few (rulesOf (a .rules)) capacity (a .running .status) (a .bytes .now) (map recordOf (a .list .records)) (a .list .count) (a .out .now) (s .length) (s .running .status) (size-there z),
-      omega (arith, own, c .before .if1 .left),
+    let s = z .size .given .0 .0 in (
+      sized-few capacity (a .running .status) (recordsJudged (rulesOf (a .rules)) (a .bytes .now) (map recordOf (a .list .records))) (a .list .count) (a .out .now) (s .length) (s .running .status) (size-there z),
+      sized-fits capacity (a .running .status) (recordsJudged (rulesOf (a .rules)) (a .bytes .now) (map recordOf (a .list .records))) (a .list .count) (a .out .now) (s .length) (s .running .status) (size-there z) (c .before .if1 .left),
     )
 
 returns-2 : tie.Need-returns-2
 returns-2 c =
     let a = c .before .before .before .before .before .before .args in
     let n = c .before .n .given .0 .0 in
-    unsized-left (rulesOf (a .rules)) capacity (a .running .status) (a .bytes .now) (map recordOf (a .list .records)) (a .list .count) (a .out .now) (n .running .status) (numberOf (n .refusal)) (n .index)
+    unsized-left capacity (a .running .status) (recordsJudged (rulesOf (a .rules)) (a .bytes .now) (map recordOf (a .list .records))) (a .list .count) (a .out .now) (n .running .status) (numberOf (n .refusal)) (n .index)
     (sym (ap sizeSaid (c .before .n .given .1)) ∙ c .before .before .before .list-length .ensures)
 
 returns-3 : tie.Need-returns-3
@@ -53,7 +51,7 @@ returns-3 c =
     let z = p .before .before .before .before .before in
     let a = z .before .before .before .before .before .args in
     let s = z .size .given .0 .0 in
-    sized-put (rulesOf (a .rules)) capacity (a .running .status) (a .bytes .now) (map recordOf (a .list .records)) (a .list .count) (a .out .now) (s .length) (s .running .status) (size-there z)
+    sized-put capacity (a .running .status) (recordsJudged (rulesOf (a .rules)) (a .bytes .now) (map recordOf (a .list .records))) (a .list .count) (a .out .now) (s .length) (s .running .status) (size-there z)
     (p .before .before .if1 .left) _ (p .put-records .ensures)
 
 pub write-list-spec : {M : Type 1} → statement M

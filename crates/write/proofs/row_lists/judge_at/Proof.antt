@@ -3,7 +3,7 @@ use mathlib.Core.Path.{_≡_, refl, sym, ap, subst, _∙_}
 use native.Mathlib.Omega.{arith}
 use borrow.Author.Needs.{needs}
 use Rattle.base.specs.Rules.{rulesOf}
-use Rattle.write.proofs.RowRecords.{row-short}
+use Rattle.write.proofs.Judging.{row-short}
 use Rattle.write.proofs.row_lists.judge_at.Statement.{statement}
 use Rattle.write.proofs.row_lists.judge_at.Tie as tie
 

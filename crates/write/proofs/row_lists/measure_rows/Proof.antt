@@ -6,53 +6,53 @@ use native.Mathlib.Omega.{arith}
 use lib.ListN.{length, getD}
 use lib.ListN.{take, drop}
 use borrow.Author.Needs.{needs}
-use Rattle.smf.specs.Lists.{filler}
+use Rattle.smf.specs.Answer.{refuses}
 use Rattle.base.specs.Rules.{rulesOf}
 use Rattle.track.specs.List.{capacity}
-use Rattle.rows.specs.RowEvent.{rowRecord}
+use Rattle.rows.specs.RowEvent.{rowJudged}
 use Rattle.rows.specs.Rows.{width}
 use Rattle.write.specs.Size.{eventSize, lengthSaid}
-use Rattle.write.proofs.Doors.{told}
+use Rattle.write.proofs.Judging.{rowsCounted, rows-counted, row-counted, row-lawful}
+use Rattle.write.proofs.Doors.{row-number, told}
 use Rattle.write.proofs.Measuring.{Seen, seen-first, seen-last, seen-illegal, seen-most, seen-more}
-use Rattle.write.proofs.RowRecords.{rowsCounted, rows-counted, row-counted}
 use Rattle.write.proofs.row_lists.measure_rows.Statement.{statement}
 use Rattle.write.proofs.row_lists.measure_rows.Tie as tie
 
 abbrev Inv-loop : tie.InvT-loop
 Inv-loop rows count running rules bytes n₀ status₀ i₀ n status i =
-    (i ≤ count) × Seen (rulesOf rules) bytes (running .status) (rowsCounted count rows) n status i
+    (i ≤ count) × Seen (running .status) (rowsCounted (rulesOf rules) bytes count rows) n status i
 
 abbrev μ-loop : tie.MeasureT-loop
 μ-loop rows count running rules bytes n₀ status₀ i₀ n status i = count - i
 
 loop-holds : tie.Need-loop-holds Inv-loop μ-loop
-loop-holds c = (omega arith, seen-first _ _ _ _)
+loop-holds c = (omega arith, seen-first _ _)
 
 measured-requires : tie.Need-measured-requires Inv-loop μ-loop
-measured-requires c κs = told _ _ _ (c .judge-at .result) (c .judge-at .ensures)
+measured-requires c κs = told _ _ (row-number _ _ _) (c .judge-at .result) (c .judge-at .ensures)
 
 -- the row that is measured is one that counts
-inside : (c : tie.After-measured Inv-loop μ-loop) → let l = c .before .before .before .loop in let a = c .before .before .before .before .before .before .args in l .index < length (rowsCounted (a .count) (a .rows .now))
-inside c = let l = c .before .before .before .loop in let a = c .before .before .before .before .before .before .args in omega (arith, rows-counted (a .count) (a .rows .now), c .before .before .loop-test .taken)
+inside : (c : tie.After-measured Inv-loop μ-loop) → let l = c .before .before .before .loop in let a = c .before .before .before .before .before .before .args in l .index < length (rowsCounted (rulesOf (a .rules)) (a .bytes .now) (a .count) (a .rows .now))
+inside c = let l = c .before .before .before .loop in let a = c .before .before .before .before .before .before .args in omega (arith, rows-counted (rulesOf (a .rules)) (a .bytes .now) (a .count) (a .rows .now), c .before .before .loop-test .taken)
 
-there : (c : tie.After-measured Inv-loop μ-loop) → let l = c .before .before .before .loop in let a = c .before .before .before .before .before .before .args in getD (rowsCounted (a .count) (a .rows .now)) (l .index) filler ≡ rowRecord (take width (drop (l .index * width) (a .rows .now)))
-there c = let l = c .before .before .before .loop in let a = c .before .before .before .before .before .before .args in row-counted (a .count) (a .rows .now) (l .index) filler (c .before .before .loop-test .taken)
+there : (c : tie.After-measured Inv-loop μ-loop) → let l = c .before .before .before .loop in let a = c .before .before .before .before .before .before .args in getD (rowsCounted (rulesOf (a .rules)) (a .bytes .now) (a .count) (a .rows .now)) (l .index) (refuses 0) ≡ rowJudged (rulesOf (a .rules)) (a .bytes .now) (take width (drop (l .index * width) (a .rows .now)))
+there c = let l = c .before .before .before .loop in let a = c .before .before .before .before .before .before .args in row-counted (rulesOf (a .rules)) (a .bytes .now) (a .count) (a .rows .now) (l .index) (refuses 0) (c .before .before .loop-test .taken)
 
-said : (c : tie.After-measured Inv-loop μ-loop) → let l = c .before .before .before .loop in let a = c .before .before .before .before .before .before .args in lengthSaid (c .measured .result) ≡ eventSize (rulesOf (a .rules)) (l .status) (a .bytes .now) (rowRecord (take width (drop (l .index * width) (a .rows .now))))
+said : (c : tie.After-measured Inv-loop μ-loop) → let l = c .before .before .before .loop in let a = c .before .before .before .before .before .before .args in lengthSaid (c .measured .result) ≡ eventSize (l .status) (rowJudged (rulesOf (a .rules)) (a .bytes .now) (take width (drop (l .index * width) (a .rows .now))))
 unfolding eventSize
 said c = rw (← c .before .judge-at .ensures) (c .measured .ensures)
 
 returns : tie.Need-returns Inv-loop μ-loop
-returns c = let m = c .before .before .before in let l = m .before .before .before .loop in let a = m .before .before .before .before .before .before .args in seen-illegal (rulesOf (a .rules)) (a .bytes .now) (a .running .status) (rowsCounted (a .count) (a .rows .now)) (l .inv .1) (inside m) filler _ (there m) (m .measured .result) (said m) (c .before .refusal .given .0 .0) (c .before .refusal .given .1)
+returns c = let m = c .before .before .before in let l = m .before .before .before .loop in let a = m .before .before .before .before .before .before .args in seen-illegal (a .running .status) (rowsCounted (rulesOf (a .rules)) (a .bytes .now) (a .count) (a .rows .now)) (l .inv .1) (inside m) (refuses 0) _ (there m) (m .measured .result) (said m) (c .before .refusal .given .0 .0) (c .before .refusal .given .1)
 
 add-length : tie.Need-add-length Inv-loop μ-loop
-add-length c = let m = c .before .before .before .before in let l = m .before .before .before .loop in let a = m .before .before .before .before .before .before .args in let most = seen-most (rulesOf (a .rules)) (a .bytes .now) (a .running .status) (rowsCounted (a .count) (a .rows .now)) (l .inv .1) (inside m) filler _ (there m) (m .measured .result) (said m) (c .before .before .size .given .0 .0) (c .before .before .size .given .1) in omega (arith, most, l .inv .1 .small, m .before .before .before .before .before .before .pre)
+add-length c = let m = c .before .before .before .before in let l = m .before .before .before .loop in let a = m .before .before .before .before .before .before .args in let most = seen-most (a .running .status) (rowsCounted (rulesOf (a .rules)) (a .bytes .now) (a .count) (a .rows .now)) (l .inv .1) (inside m) (refuses 0) _ (there m) (m .measured .result) (said m) (rulesOf (a .rules)) (row-lawful (rulesOf (a .rules)) (a .bytes .now) (take width (drop (l .index * width) (a .rows .now)))) (c .before .before .size .given .0 .0) (c .before .before .size .given .1) in omega (arith, most, l .inv .1 .small, m .before .before .before .before .before .before .pre)
 
 loop-again : tie.Need-loop-again Inv-loop μ-loop
-loop-again c = let m = c .before .before .before .before in let l = m .before .before .before .loop in let a = m .before .before .before .before .before .before .args in (omega arith, seen-more (rulesOf (a .rules)) (a .bytes .now) (a .running .status) (rowsCounted (a .count) (a .rows .now)) (l .inv .1) (inside m) filler _ (there m) (m .measured .result) (said m) (c .before .before .size .given .0 .0) (c .before .before .size .given .1))
+loop-again c = let m = c .before .before .before .before in let l = m .before .before .before .loop in let a = m .before .before .before .before .before .before .args in (omega arith, seen-more (a .running .status) (rowsCounted (rulesOf (a .rules)) (a .bytes .now) (a .count) (a .rows .now)) (l .inv .1) (inside m) (refuses 0) _ (there m) (m .measured .result) (said m) (rulesOf (a .rules)) (row-lawful (rulesOf (a .rules)) (a .bytes .now) (take width (drop (l .index * width) (a .rows .now)))) (c .before .before .size .given .0 .0) (c .before .before .size .given .1))
 
 returns-2 : tie.Need-returns-2 Inv-loop μ-loop
-returns-2 c = let l = c .before .loop in let a = c .before .before .before .before .args in seen-last (rulesOf (a .rules)) (a .bytes .now) (a .running .status) (rowsCounted (a .count) (a .rows .now)) (l .inv .1) (omega (arith, rows-counted (a .count) (a .rows .now)))
+returns-2 c = let l = c .before .loop in let a = c .before .before .before .before .args in seen-last (a .running .status) (rowsCounted (rulesOf (a .rules)) (a .bytes .now) (a .count) (a .rows .now)) (l .inv .1) (omega (arith, rows-counted (rulesOf (a .rules)) (a .bytes .now) (a .count) (a .rows .now)))
 
 pub measure-rows-spec : {M : Type 1} → statement M
 measure-rows-spec =
