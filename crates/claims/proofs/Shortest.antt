@@ -11,8 +11,8 @@ use Rattle.smf.specs.Number.{ahead, encodeNumber, numberFrom, readNumber}
 use Rattle.smf.specs.Payload.{payloadAfter, readPayload, encodePayload}
 use Rattle.smf.specs.Wire.{taken, readStatus, readBody, afterDelta, readRaw, encodeRaw, encodeRawEvent}
 use Rattle.smf.specs.Kind.{sysEx, called, rawOf}
-use Rattle.smf.specs.Event.{event, mapKind, mapEvent, bytesOf, named, nameRaw, readEvent, placed, eventAt, EventAt, readsAt, encodeEvent, writeEvent, Same}
-use Rattle.smf.proofs.Event.{event-read, Reached, EventReached, event-reached}
+use Rattle.smf.specs.Event.{event, mapKind, mapEvent, bytesOf, named, nameRaw, readEvent, placed, eventAt, EventAt, readsAt, legal, encodeEvent, writeEvent, Same}
+use Rattle.smf.proofs.Event.{event-read, Reached, EventReached, event-reached, legal-exactly}
 use Rattle.base.specs.Rules.{rulesOf}
 use Rattle.base.specs.declared.Rules as base
 use Rattle.base.specs.declared.Running.{Running}
@@ -24,18 +24,19 @@ use Rattle.write.specs.declared.answer.WroteEvent.{WroteEvent}
 use Rattle.claims.specs.Shortest.{Written, Shortest, NotLenient}
 use Rattle.claims.proofs.Calls as calls
 use Rattle.claims.proofs.EventWrites.{event-wrote}
+use Rattle.claims.proofs.Refusals.{legal-by}
 
 -- what is written of an event that is the same has its own length
 written : (running : ℕ) (raw : List ℕ) (a : EventAt) (Reaches : ℕ → ℕ → Type 0) → ((from : ℕ) → Reaches from (from + length (encodeEvent running (mapEvent (bytesOf raw) (a .event)))))
     → Written running raw a Reaches
 written running raw a Reaches law = calls.write-event _ said where
   said : (event : TrackEvent) (running′ : Running) (rules : base.Rules) (bytes out : List ℕ) (at : ℕ) (r : WroteEvent) (end : List ℕ)
-      → wroteEvent r end ≡ writeEvent (rulesOf rules) (running′ .status) bytes (eventOf event) out at
+      → wroteEvent r end ≡ writeEvent (running′ .status) (legal (rulesOf rules) bytes (eventOf event)) out at
       → Same bytes (eventOf event) raw (a .event) → running′ .status ≡ running
       → (n : ℕ) → wroteEvent r end .written .answer ≡ gives n → Reaches at n
   said event running′ rules bytes out at r end told same from n e =
-      let w = event-wrote (rulesOf rules) (running′ .status) bytes (eventOf event) out at n (rw told at e) in
-      rw (w .size, same, from) (law at)
+      let w = event-wrote (running′ .status) (legal (rulesOf rules) bytes (eventOf event)) (legal-by (rulesOf rules) bytes (eventOf event)) out at n (rw told at e) in
+      rw (w .size, legal-exactly (rulesOf rules) bytes (eventOf event) (w .event) .0 (w .legal) .2, same, from) (law at)
 
 -- an event that was read strictly takes no fewer bytes than its own
 used : (rules : Rules) (running : ℕ) (raw : List ℕ) (at : ℕ) (a : EventAt) → rules .strict ≡ true → eventAt rules running raw at ≡ readsAt a

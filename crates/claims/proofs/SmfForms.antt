@@ -22,7 +22,7 @@ use Rattle.smf.specs.Smpte.{Time, isRate, toRate, codeOfRate, isTime, timeBytes
 use Rattle.smf.specs.Wire.{taken, Raw, typed, encodeRaw, encodeRawEvent, runningAfter}
 use Rattle.smf.specs.Kind as kind
 use Rattle.smf.specs.Kind.{Message, Meta, Kind, rawMessage, rawMeta, rawOf}
-use Rattle.smf.specs.Event.{Event, messageFits, metaFits, kindFits, metaLoad, kindLoad, metaMisnamed, kindMisnamed, isNamed, isLegal, bytesOf, mapEvent, legal, encodeEvent, eventBytes, EventWritten, eventWritten, writeEvent, event, mapKind, spanBefore, eventAt, readsAt}
+use Rattle.smf.specs.Event.{Event, messageFits, metaFits, kindFits, carries, metaCarries, kindLoad, kindMisnamed, isNamed, isLegal, legal, encodeEvent, EventWritten, eventWritten, writeJudged, writeEvent, event, mapKind, spanBefore, eventAt, readsAt}
 use Rattle.smf.proofs.Event.{is-legal, event-read, legal-exactly}
 use Rattle.smf.proofs.Answer.{by-test, by-answer, by-lt, both, given, pick-test}
 use Rattle.smf.proofs.Number.{encode-is-number, encode-value, shortest}
@@ -147,8 +147,8 @@ module _ (rules : Rules) (running : ℕ) where
       let r = in-range rules t is in
       form.smpteOffset (coded (t .rate) (r .rated)) (r .hour-below) (r .minute-below) (r .second-below) (r .frame-below) (r .subframe-below)
 
-  meta-form : (m : Meta (List ℕ)) → metaFits rules m ≡ true → metaMisnamed rules length m ≡ false → length (metaLoad [] m) < 2 ^ 28 → InForm (kind.meta m) (rawMeta m)
-  unfolding metaFits metaMisnamed metaLoad rawMeta
+  meta-form : (m : Meta (List ℕ)) → metaFits rules m ≡ true → kindMisnamed rules length (kind.meta m) ≡ false → length (kindLoad [] (kind.meta m)) < 2 ^ 28 → InForm (kind.meta m) (rawMeta m)
+  unfolding metaFits carries metaCarries rawMeta
   meta-form (kind.trackNumber n) f o h =
       let g = ltb-true n 65536 f in
       let e : n / 256 * 256 + n % 256 ≡ n = omega arith in
@@ -174,7 +174,7 @@ module _ (rules : Rules) (running : ℕ) where
   meta-form (kind.unknown t p) f o h = with-type h (form.unknown (unnamed-form t (length p) rules o))
 
   kind-form : (k : Kind (List ℕ)) → LegalKind rules k → InForm k (rawOf k)
-  unfolding kindFits kindMisnamed kindLoad rawOf encodeRaw
+  unfolding kindFits carries rawOf encodeRaw
   kind-form (kind.midi c m) l = let f = both _ _ (l .fits) in message-form c m (ltb-true c 16 (f .0)) (f .1)
   kind-form (kind.sysEx p) l = form.sysEx (payload-form p (l .small))
   kind-form (kind.escape p) l = form.escape (payload-form p (l .small))
@@ -308,7 +308,7 @@ module _ (rules : Rules) (running : ℕ) (bytes : List ℕ) (event : Event Span)
   judged = legal rules bytes event
 
   abbrev written : EventWritten
-  written = writeEvent rules running bytes event out at
+  written = writeEvent running judged out at
 
   -- the judged event in its form, and the running status after it
   abbrev Own : EventWritten → ℕ → Type 0
@@ -335,13 +335,10 @@ module _ (rules : Rules) (running : ℕ) (bytes : List ℕ) (event : Event Span)
       (λ _. tt))
 
   owns : Owns written (written .written .answer)
-  unfolding writeEvent eventBytes mapEvent
+  unfolding writeEvent writeJudged
   owns =
       by-test (isRunning running)
-      (λ is. by-answer judged
-      (λ l h. let k : mapKind (bytesOf bytes) (event .kind) ≡ l .kind = ap (λ (e : Event (List ℕ)). e .kind) (sym (legal-exactly rules bytes event l .0 h .2)) in
-      rw (is, h, k) (legal-owns is l h (put (encodeEvent running l) out at) refl))
-      (λ m h. rw (is, h) tt))
+      (λ is. by-answer judged (λ l h. rw (is, h) (legal-owns is l h (put (encodeEvent running l) out at) refl)) (λ m h. rw (is, h) tt))
       (λ not. rw not tt)
 
 -- What the promises permit
@@ -360,7 +357,7 @@ payload-said bytes slice out at r end told n e =
     rw (w .there) (payload-own bytes (slice .start) (slice .length) (w .bytes) (w .has))
 
 event-said : (event : TrackEvent) (running : Running) (rules : base.Rules) (bytes out : List ℕ) (at : ℕ) (r : WroteEvent) (end : List ℕ)
-    → wroteEvent r end ≡ writeEvent (rulesOf rules) (running .status) bytes (eventOf event) out at
+    → wroteEvent r end ≡ writeEvent (running .status) (legal (rulesOf rules) bytes (eventOf event)) out at
     → (n : ℕ) → wroteEvent r end .written .answer ≡ gives n
     → (e : Event (List ℕ)) × (legal (rulesOf rules) bytes (eventOf event) ≡ gives e)
     × Fewest (EventForm (running .status) e (wroteEvent r end .running)) (between at n end)
