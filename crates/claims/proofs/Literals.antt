@@ -1,7 +1,7 @@
 -- The literals follow from the definitions that the promises cite.
 use mathlib.Core.Path.{_≡_, refl, sym, ap, _∙_, subst}
 use mathlib.Core.Bool.{Bool, true, false, _||_}
-use mathlib.Core.List.{List, [], _∷_, _++_}
+use mathlib.Core.List.{List, [], _∷_, _++_, map}
 use Prim.Native.Nat.{ℕ, _+_, _-_, _*_, _%_, _^_, _≤_, _<_}
 use native.Mathlib.Omega.{arith}
 use denote.Ref.{now}
@@ -9,7 +9,7 @@ use lib.Dec.{leb, eqb}
 use lib.Ieee.{Float, binary32, div, ofInt, toBits}
 use lib.IntN.{pos, _-ℤ_}
 use lib.ListN.{length, take, drop, replicate, length-append, length-drop, length-take, length-replicate}
-use lib.Seq.{drop-append-seam}
+use lib.Seq.{drop-append-seam, take-at, drop-at}
 use borrow.Author.Tests.{lt-ltb, le-ltb, le-leb, lt-leb}
 use Rattle.smf.specs.Answer.{pick, Answer, gives, refuses, Rules}
 use Rattle.smf.specs.Width.{tryWidth}
@@ -17,11 +17,15 @@ use Rattle.smf.specs.Bend.{lowest, highest, clamped, rawBend, askBend}
 use Rattle.smf.specs.Smpte.{isRate, toRate, Time, isTime, seconds, frames, subframes, position}
 use Rattle.smf.specs.Seconds.{rateFloat}
 use Rattle.smf.specs.Write.{Written, left, put, write, payloadBytes}
-use Rattle.smf.specs.Lists.{listAt, holding, ListHeld, heldAs}
+use Rattle.smf.specs.Lists.{listAt, holding, ListHeld, heldAs, recordsJudged, illegal, check, ListAnswer, ListWritten, writeList}
+use Rattle.smf.specs.Running.{isRunning}
+use Rattle.smf.specs.Kind.{meta, unknown}
 use Rattle.smf.specs.Place.{Span}
-use Rattle.smf.specs.Event.{Event, ReadAt, readsAt, refusedAt, eventAt}
+use Rattle.smf.specs.Event.{Event, ReadAt, readsAt, refusedAt, eventAt, metaFits, kindFits, carries, metaCarries, inside, isNamed, legal, encodeEvent, EventWritten, eventLeft, writeJudged, writeEvent}
 use Rattle.smf.proofs.Answer.{by-test, by-lt, given, pick-test}
 use Rattle.smf.proofs.Write.{part-long, part-bytes}
+use Rattle.smf.proofs.ListLegality.{given-length, check-illegal}
+use Rattle.smf.proofs.ListWrites.{write-invalid, write-many, write-illegal, write-full}
 use Rattle.base.specs.Rules.{rulesOf}
 use Rattle.base.specs.declared.Rules as base
 use Rattle.base.specs.declared.Running.{Running}
@@ -30,16 +34,20 @@ use Rattle.number.specs.Varlen.{writtenTo, writeLeft}
 use Rattle.number.specs.declared.varlen.WroteNumber.{WroteNumber}
 use Rattle.header.specs.Fps.{rateOf}
 use Rattle.header.specs.Smpte.{smpteTimeOf}
-use Rattle.event.specs.Event.{eventRead}
+use Rattle.event.specs.Event.{eventOf, eventRead}
 use Rattle.event.specs.Lent.{readRunning, Leaves}
 use Rattle.event.specs.declared.read.ReadEvent.{ReadEvent}
+use Rattle.track.specs.List.{recordOf}
+use Rattle.rows.specs.RowLists.{rowsJudged}
 use Rattle.track.specs.Read.{listRead}
 use Rattle.track.specs.declared.read.ReadList.{ReadList}
 use Rattle.rows.specs.RowEvent.{isRow, eventOfRow}
 use Rattle.claims.specs.Table.{among}
 use Rattle.claims.specs.Stands.{EventOrLeft}
-use Rattle.claims.specs.Literals.{upTo, Widths, Values, pastCount, Records, LeftBehind, Left, Given, Literals}
+use Rattle.claims.specs.Literals.{upTo, Widths, Values, pastCount, Records, LeftBehind, Left, Given, EventOrder, ListOrder, Order, Literals}
+use Rattle.claims.specs.SmfForms.{Unnamed}
 use Rattle.claims.proofs.Calls as calls
+use Rattle.claims.proofs.SmfForms.{unnamed-form}
 use Rattle.claims.proofs.ReadLeaves.{event-or-left}
 use Rattle.claims.proofs.Stands.{list-stands}
 
@@ -219,5 +227,96 @@ handed =
       row-short = λ κs a z e told h. told ∙ row-past (now (a .0)) (a .1 .0) h;
     }
 
+-- The order of refusals
+
+module _ (rules : Rules) (running : ℕ) (bytes : List ℕ) (e : Event Span) (out : List ℕ) (at : ℕ) where
+  abbrev refused : ℕ → Type 0
+  refused n = writeEvent running (legal rules bytes e) out at ≡ eventLeft running out n
+
+  -- what forbids an event is its answer
+  forbidden : (n : ℕ) → isRunning running ≡ true → legal rules bytes e ≡ refuses n → refused n
+  unfolding writeEvent writeJudged
+  forbidden n is h = rw (is, h)
+
+  wide : 268435455 < e .delta → legal rules bytes e ≡ refuses 18
+  unfolding legal
+  wide h = rw (le-ltb (e .delta) (2 ^ 28) (omega arith))
+
+  module _ (t : ℕ) (span : Span) (small : e .delta ≤ 268435455) (is : e .kind ≡ meta (unknown t span)) where
+    outside : length bytes < span .start + span .length → legal rules bytes e ≡ refuses 19
+    unfolding legal kindFits metaFits carries metaCarries inside
+    outside h = rw (is, lt-ltb (e .delta) (2 ^ 28) (omega arith), lt-leb (span .start + span .length) (length bytes) h)
+
+    long : span .start + span .length ≤ length bytes → 268435455 < span .length → legal rules bytes e ≡ refuses 22
+    unfolding legal kindFits metaFits carries metaCarries inside
+    long h l = rw (is, lt-ltb (e .delta) (2 ^ 28) (omega arith), le-leb (span .start + span .length) (length bytes) h, le-ltb (span .length) (2 ^ 28) (omega arith))
+
+    named : span .start + span .length ≤ length bytes → span .length ≤ 268435455 → (Unnamed t (span .length) → ⊥) → legal rules bytes e ≡ refuses 23
+    unfolding legal kindFits metaFits carries metaCarries inside
+    named h l not =
+        by-test (isNamed rules t (span .length))
+        (λ n. rw (is, lt-ltb (e .delta) (2 ^ 28) (omega arith), le-leb (span .start + span .length) (length bytes) h, lt-ltb (span .length) (2 ^ 28) (omega arith), n))
+        (λ n. absurd (not (unnamed-form t (span .length) rules n)))
+
+  room : (l : Event (List ℕ)) → isRunning running ≡ true → legal rules bytes e ≡ gives l → length out < at + length (encodeEvent running l) → refused 20
+  unfolding writeEvent writeJudged put
+  room l is h few = rw (is, h, lt-leb (at + length (encodeEvent running l)) (length out) few)
+
+  invalid : isRunning running ≡ false → refused 1
+  unfolding writeEvent
+  invalid not = rw not
+
+  abbrev answer : EventWritten → Answer ℕ
+  answer w = w .written .answer
+
+  event-order : EventOrder running (legal rules bytes e) bytes e out at (writeEvent running (legal rules bytes e) out at .written .answer)
+  event-order =
+      record {
+        first = λ not. ap answer (invalid not);
+        wide = λ is h. ap answer (forbidden 18 is (wide h));
+        outside = λ t span is small k h. ap answer (forbidden 19 is (outside t span small k h));
+        long = λ t span is small k h l. ap answer (forbidden 22 is (long t span small k h l));
+        named = λ t span is small k h l not. ap answer (forbidden 23 is (named t span small k h l not));
+        room = λ l is h few. ap answer (room l is h few);
+      }
+
+module _ (running : ℕ) (judged : List (Answer (Event (List ℕ)))) (count : ℕ) (out : List ℕ) where
+  abbrev list-answer : ListWritten → ListAnswer
+  list-answer w = w .answer
+
+  first-illegal : (es : List (Event (List ℕ))) (n : ℕ) (later : List (Answer (Event (List ℕ)))) → take count judged ≡ map gives es ++ (refuses n ∷ later)
+      → check 0 (take count judged) ≡ illegal n (length es)
+  first-illegal es n later h =
+      check-illegal (take count judged) n (length es) .1
+      (record {
+        events = es;
+        before = ap (take (length es)) h ∙ take-at (map gives es) (refuses n ∷ later) (length es) (given-length es);
+        later = later;
+        there = ap (drop (length es)) h ∙ drop-at (map gives es) (refuses n ∷ later) (length es) (given-length es);
+      })
+
+  list-order : ListOrder running judged count out (writeList 128 running judged count out .answer)
+  list-order =
+      record {
+        first = λ not. ap list-answer (write-invalid 128 running judged count out not);
+        many = λ is h. ap list-answer (write-many 128 running judged count out is h);
+        illegal = λ es n later is few h. ap list-answer (write-illegal 128 running judged count out is few (first-illegal es n later h));
+        room = λ es is few h full. ap list-answer (write-full 128 running judged count out is few es h full);
+      }
+
+ordered : Order
+ordered =
+    record {
+      event = calls.write-event _ (λ event running rules bytes out at r end told.
+          subst (λ (w : EventWritten). EventOrder (running .status) (legal (rulesOf rules) bytes (eventOf event)) bytes (eventOf event) out at (w .written .answer)) (sym told)
+          (event-order (rulesOf rules) (running .status) bytes (eventOf event) out at));
+      list = calls.write-list _ (λ list running rules bytes out r end told.
+          subst (λ (w : ListWritten). ListOrder (running .status) (recordsJudged (rulesOf rules) bytes (map recordOf (list .records))) (list .count) out (w .answer)) (sym told)
+          (list-order (running .status) (recordsJudged (rulesOf rules) bytes (map recordOf (list .records))) (list .count) out));
+      rows = calls.write-rows _ (λ rows count running rules bytes out r end told.
+          subst (λ (w : ListWritten). ListOrder (running .status) (rowsJudged (rulesOf rules) bytes count rows) count out (w .answer)) (sym told)
+          (list-order (running .status) (rowsJudged (rulesOf rules) bytes count rows) count out));
+    }
+
 pub literals : Literals
-literals = record { widths = widths; values = values; records = records; left = left-behind; given = handed }
+literals = record { widths = widths; values = values; records = records; left = left-behind; given = handed; order = ordered }

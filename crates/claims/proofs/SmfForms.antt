@@ -93,7 +93,7 @@ module _ (t n : ℕ) where
       (λ e. subst (λ (m : ℕ). Unnamed m n) (sym (eqb-true t u e)) (named (leb-false least n (rw e at o))))
       others
 
-  unnamed-form : (rules : Rules) → isNamed rules t n ≡ false → Unnamed t n
+  pub unnamed-form : (rules : Rules) → isNamed rules t n ≡ false → Unnamed t n
   unfolding isNamed
   unnamed-form rules o =
       let signature = neither _ (eqb t 0x58 && leb 4 n) o in

@@ -1,7 +1,7 @@
 -- The numbers, orders and forms that document 01 prints and no other claim names, each as a literal: of whatever a function's promise permits.
 use mathlib.Core.Path.{_≡_}
 use mathlib.Core.Bool.{true, false}
-use mathlib.Core.List.{List, [], _∷_}
+use mathlib.Core.List.{List, [], _∷_, _++_, map}
 use Prim.Native.Nat.{ℕ, _+_, _-_, _*_, _%_, _≤_, _<_}
 use contract.Lifetimes.{Lfts}
 use denote.Ref.{now}
@@ -10,12 +10,14 @@ use borrow.Fn.Kinds.{Dens, Out, resT}
 use lib.Dec.{leb}
 use lib.Ieee.{binary32, toBits}
 use lib.IntN.{pos, _-ℤ_}
-use lib.ListN.{length, drop, replicate}
+use lib.ListN.{length, take, drop, replicate}
 use Rattle.smf.specs.Answer.{pick, Answer, gives, refuses}
 use Rattle.smf.specs.Number.{readNumber}
 use Rattle.smf.specs.Place.{Span}
-use Rattle.smf.specs.Kind.{meta, endOfTrack}
-use Rattle.smf.specs.Event.{Event, event, ReadAt, readsAt, refusedAt, eventAt}
+use Rattle.smf.specs.Running.{isRunning}
+use Rattle.smf.specs.Kind.{meta, endOfTrack, unknown}
+use Rattle.smf.specs.Event.{Event, event, ReadAt, readsAt, refusedAt, eventAt, legal, encodeEvent}
+use Rattle.smf.specs.Lists.{recordsJudged, encodeList, ListAnswer, refusesAt}
 use Rattle.base.specs.Restricted.{triedU2, triedU4, triedU7, triedU14, triedU15, triedU24}
 use Rattle.base.specs.Rules.{rulesOf}
 use Rattle.base.specs.declared.Rules.{Rules}
@@ -28,19 +30,23 @@ use Rattle.header.specs.Smpte.{askedPosition}
 use Rattle.header.proofs as header
 use Rattle.midi.specs.Bend.{bendInt}
 use Rattle.midi.proofs as midi
-use Rattle.event.specs.Event.{eventRead}
+use Rattle.event.specs.Event.{eventOf, eventRead}
 use Rattle.event.specs.Lent.{Leaves}
 use Rattle.event.specs.declared.read.ReadEvent.{ReadEvent}
 use Rattle.event.proofs as events
-use Rattle.track.specs.List.{heldOf}
+use Rattle.track.specs.List.{recordOf, heldOf}
 use Rattle.track.specs.Read.{listRead}
 use Rattle.track.proofs as track
 use Rattle.rows.specs.RowAnswer.{rowAnswer}
+use Rattle.rows.specs.RowLists.{rowsJudged}
 use Rattle.rows.proofs as rows
+use Rattle.write.specs.Wrote.{wroteEvent}
+use Rattle.write.specs.ListAnswers.{wroteList}
 use Rattle.loader.proofs as loader
-use Rattle.claims.specs.Calls.{Always, WriteVarlenSlice, EventListRead}
+use Rattle.claims.specs.Calls.{Always, WriteVarlenSlice, EventListRead, WriteEvent, WriteList, WriteRows}
 use Rattle.claims.specs.Table.{among}
 use Rattle.claims.specs.Stands.{statusLeft}
+use Rattle.claims.specs.SmfForms.{Unnamed}
 
 -- whatever its promise permits, a function answers this
 abbrev pub Answers : (n : ℕ) (ps : List (PK n)) (r : RK n) → Out n ps r → {A : Type 0} → ((κs : Lfts n) → resT r κs .Denot → A) → ((κs : Lfts n) → Dens κs ps → A) → Type 0
@@ -130,6 +136,35 @@ pub record Given : Type 0 where
   pub row-short : Always 1 rows.back.«row_event_at».Kinds.ps rows.back.«row_event_at».Kinds.r rows.back.«row_event_at».Reads.Learnt (λ κs a z e.
       length (now (a .0)) < a .1 .0 + 10 → rowAnswer z ≡ refuses 18)
 
+-- document 01: writing checks 1, then what forbids the event, 18, 19, 22, 23 in that order, then 20. An `Unknown` can be refused by each of them
+pub record EventOrder (running : ℕ) (judged : Answer (Event (List ℕ))) (bytes : List ℕ) (e : Event Span) (out : List ℕ) (at : ℕ) (answer : Answer ℕ) : Type 0 where
+  pub first : isRunning running ≡ false → answer ≡ refuses 1
+  pub wide : isRunning running ≡ true → 268435455 < e .delta → answer ≡ refuses 18
+  pub outside : (t : ℕ) (span : Span) → isRunning running ≡ true → e .delta ≤ 268435455 → e .kind ≡ meta (unknown t span)
+      → length bytes < span .start + span .length → answer ≡ refuses 19
+  pub long : (t : ℕ) (span : Span) → isRunning running ≡ true → e .delta ≤ 268435455 → e .kind ≡ meta (unknown t span)
+      → span .start + span .length ≤ length bytes → 268435455 < span .length → answer ≡ refuses 22
+  pub named : (t : ℕ) (span : Span) → isRunning running ≡ true → e .delta ≤ 268435455 → e .kind ≡ meta (unknown t span)
+      → span .start + span .length ≤ length bytes → span .length ≤ 268435455 → (Unnamed t (span .length) → ⊥) → answer ≡ refuses 23
+  pub room : (l : Event (List ℕ)) → isRunning running ≡ true → judged ≡ gives l → length out < at + length (encodeEvent running l) → answer ≡ refuses 20
+
+-- document 01: 1, 21, then the first illegal event, with its index, then 20
+pub record ListOrder (running : ℕ) (judged : List (Answer (Event (List ℕ)))) (count : ℕ) (out : List ℕ) (answer : ListAnswer) : Type 0 where
+  pub first : isRunning running ≡ false → answer ≡ refusesAt 1 0
+  pub many : isRunning running ≡ true → 128 < count → answer ≡ refusesAt 21 0
+  pub illegal : (es : List (Event (List ℕ))) (n : ℕ) (later : List (Answer (Event (List ℕ)))) → isRunning running ≡ true → count ≤ 128
+      → take count judged ≡ map gives es ++ (refuses n ∷ later) → answer ≡ refusesAt n (length es)
+  pub room : (es : List (Event (List ℕ))) → isRunning running ≡ true → count ≤ 128
+      → take count judged ≡ map gives es → length out < length (encodeList running es) → answer ≡ refusesAt 20 0
+
+pub record Order : Type 0 where
+  pub event : WriteEvent (λ event running rules bytes out at r end.
+      EventOrder (running .status) (legal (rulesOf rules) bytes (eventOf event)) bytes (eventOf event) out at (wroteEvent r end .written .answer))
+  pub list : WriteList (λ list running rules bytes out r end.
+      ListOrder (running .status) (recordsJudged (rulesOf rules) bytes (map recordOf (list .records))) (list .count) out (wroteList r end .answer))
+  pub rows : WriteRows (λ rows count running rules bytes out r end.
+      ListOrder (running .status) (rowsJudged (rulesOf rules) bytes count rows) count out (wroteList r end .answer))
+
 -- all of them
 pub record Literals : Type 0 where
   pub widths : Widths
@@ -137,3 +172,4 @@ pub record Literals : Type 0 where
   pub records : Records
   pub left : Left
   pub given : Given
+  pub order : Order
