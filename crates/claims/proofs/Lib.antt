@@ -5,6 +5,9 @@ pub mod ReadLeaves
 pub mod Stands
 pub mod EventWrites
 pub mod ListLeaves
+pub mod SmfReads
+pub mod SmfForms
+pub mod Literals
 pub mod Worked
 pub mod Shortest
 pub mod LentRunning
