@@ -21,7 +21,7 @@ use Rattle.smf.proofs.Number.{smf-read, smf-number}
 use Rattle.smf.proofs.Place.{Reached, NumberReached, number-reached}
 use Rattle.base.specs.Rules.{rulesOf}
 use Rattle.number.specs.Varlen.{numberRead}
-use Rattle.base.specs.declared.Rules as number
+use Rattle.base.specs.declared.Rules as base
 use Rattle.base.specs.declared.Running.{Running}
 use Rattle.number.specs.declared.varlen.ReadNumber.{ReadNumber}
 use Rattle.event.specs.Event.{eventOf}
@@ -86,7 +86,7 @@ count-is : (r : ReadList) (es : List (Event Span)) (place running : ℕ) → lis
 unfolding holding
 count-is r es place running h = ap (λ (l : ListHeld). l .list .count) h
 
-two : (raw : List ℕ) (at : ℕ) (running : Running) (rules : number.Rules) (r : ReadList) → listRead r ≡ heldAs capacity (listAt (rulesOf rules) capacity (running .status) raw at)
+two : (raw : List ℕ) (at : ℕ) (running : Running) (rules : base.Rules) (r : ReadList) → listRead r ≡ heldAs capacity (listAt (rulesOf rules) capacity (running .status) raw at)
     → raw ≡ p1 ++ p2 → at ≡ 0 → running .status ≡ 0 → TwoEvents raw r
 two raw at running rules r told q z none =
     let h : listRead r ≡ heldAs capacity (whole (struck ∷ released ∷ []) 7 0x90) = rw (q, z, none, two-read (rulesOf rules)) at told in
@@ -101,13 +101,13 @@ two raw at running rules r told q z none =
     }
 
 other : (raw : List ℕ) (r : ReadList) → nth r 0 ≡ struck
-    → (raw′ : List ℕ) (at : ℕ) (running : Running) (rules : number.Rules) (r′ : ReadList) → listRead r′ ≡ heldAs capacity (listAt (rulesOf rules) capacity (running .status) raw′ at)
+    → (raw′ : List ℕ) (at : ℕ) (running : Running) (rules : base.Rules) (r′ : ReadList) → listRead r′ ≡ heldAs capacity (listAt (rulesOf rules) capacity (running .status) raw′ at)
     → OtherEvent raw r raw′ at running rules r′
 other raw r first raw′ at running rules r′ told q z none =
     let h : listRead r′ ≡ heldAs capacity (whole (slow ∷ []) 7 0) = rw (q, z, none, tempo-read (rulesOf rules)) at told in
     (count-is r′ (slow ∷ []) 7 0 h, (λ same. kinds raw raw′ (rw (first, first-is r′ slow [] 7 0 h) at same)))
 
-one : (raw : List ℕ) (at : ℕ) (running : Running) (rules : number.Rules) (r : ReadList) → listRead r ≡ heldAs capacity (listAt (rulesOf rules) capacity (running .status) raw at)
+one : (raw : List ℕ) (at : ℕ) (running : Running) (rules : base.Rules) (r : ReadList) → listRead r ≡ heldAs capacity (listAt (rulesOf rules) capacity (running .status) raw at)
     → raw ≡ p1 → at ≡ 0 → running .status ≡ 0 → (listRead r .list .count ≡ 1) × EventListRead (OtherEvent raw r)
 one raw at running rules r told q z none =
     let h : listRead r ≡ heldAs capacity (whole (struck ∷ []) 4 0x90) = rw (q, z, none, one-read (rulesOf rules)) at told in
@@ -119,7 +119,7 @@ legal-written : (running : ℕ) (j : Answer (Event (List ℕ))) (out : List ℕ)
 unfolding writeEvent writeJudged put
 legal-written running j out at l is h room = rw (is, h, le-leb _ _ room)
 
-legal-said : (event : TrackEvent) (running : Running) (rules : number.Rules) (bytes out : List ℕ) (at : ℕ) (r : WroteEvent) (end : List ℕ)
+legal-said : (event : TrackEvent) (running : Running) (rules : base.Rules) (bytes out : List ℕ) (at : ℕ) (r : WroteEvent) (end : List ℕ)
     → wroteEvent r end ≡ writeEvent (running .status) (legal (rulesOf rules) bytes (eventOf event)) out at
     → (e : Event (List ℕ)) → isRunning (running .status) ≡ true → legal (rulesOf rules) bytes (eventOf event) ≡ gives e → at + length (encodeEvent (running .status) e) ≤ length out
     → wroteEvent r end ≡ ownWritten (running .status) e out at
@@ -141,11 +141,11 @@ number-only rules s at m strict e =
     let u = smf-number rules strict (drop at s) (numeral (m .value) (drop (m .next) s)) (r .read) in
     (u .0, u .2, u .3, u .1)
 
-number-said : (raw : List ℕ) (at : ℕ) (rules : number.Rules) (r : ReadNumber) → numberRead r ≡ numberAt (rulesOf rules) raw at
+number-said : (raw : List ℕ) (at : ℕ) (rules : base.Rules) (r : ReadNumber) → numberRead r ≡ numberAt (rulesOf rules) raw at
     → (n rest : List ℕ) → isNumber 4 n ≡ true → drop at raw ≡ n ++ rest → numberRead r ≡ gives (record { value = valueFrom 0 n; next = at + length n })
 number-said raw at rules r told n rest is e = told ∙ number-placed (rulesOf rules) raw at n rest is e
 
-only-said : (raw : List ℕ) (at : ℕ) (rules : number.Rules) (r : ReadNumber) → numberRead r ≡ numberAt (rulesOf rules) raw at
+only-said : (raw : List ℕ) (at : ℕ) (rules : base.Rules) (r : ReadNumber) → numberRead r ≡ numberAt (rulesOf rules) raw at
     → (m : NumberAt) → rules .strict ≡ true → numberRead r ≡ gives m
     → (n : List ℕ) × (isNumber 4 n ≡ true) × (m .value ≡ valueFrom 0 n) × (drop at raw ≡ n ++ drop (m .next) raw)
 only-said raw at rules r told m strict e = number-only (rulesOf rules) raw at m strict (sym told ∙ e)

@@ -23,7 +23,7 @@ use Rattle.smf.proofs.ListLegality.{given-itself, records-themselves}
 use Rattle.smf.proofs.ListPlaces.{list-reached}
 use Rattle.smf.proofs.ListWrites.{write-wrote, front-own}
 use Rattle.base.specs.Rules.{rulesOf}
-use Rattle.base.specs.declared.Rules as number
+use Rattle.base.specs.declared.Rules as base
 use Rattle.base.specs.declared.Running.{Running}
 use Rattle.event.specs.Event.{eventOf}
 use Rattle.event.specs.declared.TrackEvent.{TrackEvent}
@@ -141,7 +141,7 @@ full-list κs a good =
     let fields = struct.owed list.the-type laws.the-laws (a .0) (struct.val list.the-type laws.the-laws (a .0) ∷ []) (good .0) in
     sym (length-map (a .0 .records) _) ∙ fields .0 .1 .0 .1
 
-again : (list : EventList) (running : Running) (rules : number.Rules) (bytes out : List ℕ) (w : ListWritten)
+again : (list : EventList) (running : Running) (rules : base.Rules) (bytes out : List ℕ) (w : ListWritten)
     → w ≡ writeList capacity (running .status) (recordsJudged (rulesOf rules) bytes (map recordOf (list .records))) (list .count) out
     → (n : ℕ) → w .answer ≡ wrote n → length (list .records) ≡ capacity → EventListRead (ReadAgain list running rules bytes w n)
 again list running rules bytes out w told n e full =
@@ -150,7 +150,7 @@ again list running rules bytes out w told n e full =
     back (rulesOf rules) (rulesOf rules′) (running .status) bytes (map recordOf (list .records)) (list .count) out n at w raw (listRead r)
     told e full′ (rw same at told′) q z strict)
 
-never : (e : TrackEvent) (running : Running) (rules : number.Rules) (bytes out : List ℕ) (at : ℕ) (r : WroteEvent) (end : List ℕ)
+never : (e : TrackEvent) (running : Running) (rules : base.Rules) (bytes out : List ℕ) (at : ℕ) (r : WroteEvent) (end : List ℕ)
     → wroteEvent r end ≡ writeEvent (running .status) (legal (rulesOf rules) bytes (eventOf e)) out at
     → (n : ℕ) → at ≡ 0 → wroteEvent r end .written .answer ≡ gives n → WriteEvent (NeverBegins e running rules bytes (take n end))
 never e running rules bytes out at r end told n z h =

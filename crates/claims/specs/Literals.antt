@@ -3,10 +3,7 @@ use mathlib.Core.Path.{_≡_}
 use mathlib.Core.Bool.{true, false}
 use mathlib.Core.List.{List, [], _∷_, _++_, map}
 use Prim.Native.Nat.{ℕ, _+_, _-_, _*_, _%_, _≤_, _<_}
-use contract.Lifetimes.{Lfts}
 use denote.Ref.{now}
-use borrow.Fn.Kind.{PK, RK}
-use borrow.Fn.Kinds.{Dens, Out, resT}
 use lib.Dec.{leb}
 use lib.Ieee.{binary32, toBits}
 use lib.IntN.{pos, _-ℤ_}
@@ -43,14 +40,14 @@ use Rattle.rows.proofs as rows
 use Rattle.write.specs.Wrote.{wroteEvent}
 use Rattle.write.specs.ListAnswers.{wroteList}
 use Rattle.loader.proofs as loader
-use Rattle.claims.specs.Calls.{Always, WriteVarlenSlice, EventListRead, WriteEvent, WriteList, WriteRows}
+use Rattle.claims.specs.Calls.{Always, first, second, third, fourth, WriteVarlenSlice, EventListRead, WriteEvent, WriteList, WriteRows}
 use Rattle.claims.specs.Table.{among}
 use Rattle.claims.specs.Stands.{statusLeft}
 use Rattle.claims.specs.SmfForms.{Unnamed}
 
 -- whatever its promise permits, a function answers this
-abbrev pub Answers : (n : ℕ) (ps : List (PK n)) (r : RK n) → Out n ps r → {A : Type 0} → ((κs : Lfts n) → resT r κs .Denot → A) → ((κs : Lfts n) → Dens κs ps → A) → Type 0
-Answers n ps r Told says is = Always n ps r Told (λ κs a z e. says κs z ≡ is κs a)
+abbrev pub Answers : {L : Type 0} {A R E : L → Type 0} → ((κs : L) → A κs → R κs → E κs → Type 0) → {B : Type 0} → ((κs : L) → R κs → B) → ((κs : L) → A κs → B) → Type 0
+Answers Told says is = Always Told (λ κs a z e. says κs z ≡ is κs a)
 
 -- a number up to the largest is taken as it is, and one above it refused by 18
 abbrev pub upTo : ℕ → ℕ → Answer ℕ
@@ -58,44 +55,44 @@ upTo largest x = pick (leb x largest) (gives x) (refuses 18)
 
 -- document 01, module 1: the largest value of each restricted number, `new`, which keeps the low bits, and `try_from`
 pub record Widths : Type 0 where
-  pub u2-max-value : Answers 0 base.u2.«max_value».Kinds.ps base.u2.«max_value».Kinds.r base.u2.«max_value».Reads.Learnt (λ κs z. z .0) (λ κs a. 3)
-  pub u2-new : Answers 0 base.u2.new.Kinds.ps base.u2.new.Kinds.r base.u2.new.Reads.Learnt (λ κs z. z .0) (λ κs a. a .0 % 4)
-  pub u2-try-from : Answers 0 base.u2.«try_from».Kinds.ps base.u2.«try_from».Kinds.r base.u2.«try_from».Reads.Learnt (λ κs. triedU2) (λ κs a. upTo 3 (a .0))
-  pub u4-max-value : Answers 0 base.u4.«max_value».Kinds.ps base.u4.«max_value».Kinds.r base.u4.«max_value».Reads.Learnt (λ κs z. z .0) (λ κs a. 15)
-  pub u4-new : Answers 0 base.u4.new.Kinds.ps base.u4.new.Kinds.r base.u4.new.Reads.Learnt (λ κs z. z .0) (λ κs a. a .0 % 16)
-  pub u4-try-from : Answers 0 base.u4.«try_from».Kinds.ps base.u4.«try_from».Kinds.r base.u4.«try_from».Reads.Learnt (λ κs. triedU4) (λ κs a. upTo 15 (a .0))
-  pub u7-max-value : Answers 0 base.u7.«max_value».Kinds.ps base.u7.«max_value».Kinds.r base.u7.«max_value».Reads.Learnt (λ κs z. z .0) (λ κs a. 127)
-  pub u7-new : Answers 0 base.u7.new.Kinds.ps base.u7.new.Kinds.r base.u7.new.Reads.Learnt (λ κs z. z .0) (λ κs a. a .0 % 128)
-  pub u7-try-from : Answers 0 base.u7.«try_from».Kinds.ps base.u7.«try_from».Kinds.r base.u7.«try_from».Reads.Learnt (λ κs. triedU7) (λ κs a. upTo 127 (a .0))
-  pub u14-max-value : Answers 0 base.u14.«max_value».Kinds.ps base.u14.«max_value».Kinds.r base.u14.«max_value».Reads.Learnt (λ κs z. z .0) (λ κs a. 16383)
-  pub u14-new : Answers 0 base.u14.new.Kinds.ps base.u14.new.Kinds.r base.u14.new.Reads.Learnt (λ κs z. z .0) (λ κs a. a .0 % 16384)
-  pub u14-try-from : Answers 0 base.u14.«try_from».Kinds.ps base.u14.«try_from».Kinds.r base.u14.«try_from».Reads.Learnt (λ κs. triedU14) (λ κs a. upTo 16383 (a .0))
-  pub u15-max-value : Answers 0 base.u15.«max_value».Kinds.ps base.u15.«max_value».Kinds.r base.u15.«max_value».Reads.Learnt (λ κs z. z .0) (λ κs a. 32767)
-  pub u15-new : Answers 0 base.u15.new.Kinds.ps base.u15.new.Kinds.r base.u15.new.Reads.Learnt (λ κs z. z .0) (λ κs a. a .0 % 32768)
-  pub u15-try-from : Answers 0 base.u15.«try_from».Kinds.ps base.u15.«try_from».Kinds.r base.u15.«try_from».Reads.Learnt (λ κs. triedU15) (λ κs a. upTo 32767 (a .0))
-  pub u24-max-value : Answers 0 base.u24.«max_value».Kinds.ps base.u24.«max_value».Kinds.r base.u24.«max_value».Reads.Learnt (λ κs z. z .0) (λ κs a. 16777215)
-  pub u24-new : Answers 0 base.u24.new.Kinds.ps base.u24.new.Kinds.r base.u24.new.Reads.Learnt (λ κs z. z .0) (λ κs a. a .0 % 16777216)
-  pub u24-try-from : Answers 0 base.u24.«try_from».Kinds.ps base.u24.«try_from».Kinds.r base.u24.«try_from».Reads.Learnt (λ κs. triedU24) (λ κs a. upTo 16777215 (a .0))
-  pub u28-max-value : Answers 0 number.u28.«max_value».Kinds.ps number.u28.«max_value».Kinds.r number.u28.«max_value».Reads.Learnt (λ κs z. z .0) (λ κs a. 268435455)
-  pub u28-new : Answers 0 number.u28.new.Kinds.ps number.u28.new.Kinds.r number.u28.new.Reads.Learnt (λ κs z. z .0) (λ κs a. a .0 % 268435456)
-  pub u28-try-from : Answers 0 number.u28.«try_from».Kinds.ps number.u28.«try_from».Kinds.r number.u28.«try_from».Reads.Learnt (λ κs. triedU28) (λ κs a. upTo 268435455 (a .0))
+  pub u2-max-value : Answers base.u2.«max_value».Reads.Learnt (λ κs z. z .0) (λ κs a. 3)
+  pub u2-new : Answers base.u2.new.Reads.Learnt (λ κs z. z .0) (λ κs a. a .0 % 4)
+  pub u2-try-from : Answers base.u2.«try_from».Reads.Learnt (λ κs. triedU2) (λ κs a. upTo 3 (a .0))
+  pub u4-max-value : Answers base.u4.«max_value».Reads.Learnt (λ κs z. z .0) (λ κs a. 15)
+  pub u4-new : Answers base.u4.new.Reads.Learnt (λ κs z. z .0) (λ κs a. a .0 % 16)
+  pub u4-try-from : Answers base.u4.«try_from».Reads.Learnt (λ κs. triedU4) (λ κs a. upTo 15 (a .0))
+  pub u7-max-value : Answers base.u7.«max_value».Reads.Learnt (λ κs z. z .0) (λ κs a. 127)
+  pub u7-new : Answers base.u7.new.Reads.Learnt (λ κs z. z .0) (λ κs a. a .0 % 128)
+  pub u7-try-from : Answers base.u7.«try_from».Reads.Learnt (λ κs. triedU7) (λ κs a. upTo 127 (a .0))
+  pub u14-max-value : Answers base.u14.«max_value».Reads.Learnt (λ κs z. z .0) (λ κs a. 16383)
+  pub u14-new : Answers base.u14.new.Reads.Learnt (λ κs z. z .0) (λ κs a. a .0 % 16384)
+  pub u14-try-from : Answers base.u14.«try_from».Reads.Learnt (λ κs. triedU14) (λ κs a. upTo 16383 (a .0))
+  pub u15-max-value : Answers base.u15.«max_value».Reads.Learnt (λ κs z. z .0) (λ κs a. 32767)
+  pub u15-new : Answers base.u15.new.Reads.Learnt (λ κs z. z .0) (λ κs a. a .0 % 32768)
+  pub u15-try-from : Answers base.u15.«try_from».Reads.Learnt (λ κs. triedU15) (λ κs a. upTo 32767 (a .0))
+  pub u24-max-value : Answers base.u24.«max_value».Reads.Learnt (λ κs z. z .0) (λ κs a. 16777215)
+  pub u24-new : Answers base.u24.new.Reads.Learnt (λ κs z. z .0) (λ κs a. a .0 % 16777216)
+  pub u24-try-from : Answers base.u24.«try_from».Reads.Learnt (λ κs. triedU24) (λ κs a. upTo 16777215 (a .0))
+  pub u28-max-value : Answers number.u28.«max_value».Reads.Learnt (λ κs z. z .0) (λ κs a. 268435455)
+  pub u28-new : Answers number.u28.new.Reads.Learnt (λ κs z. z .0) (λ κs a. a .0 % 268435456)
+  pub u28-try-from : Answers number.u28.«try_from».Reads.Learnt (λ κs. triedU28) (λ κs a. upTo 268435455 (a .0))
 
 -- document 01, "Bytes of an event" and "Bend values": rates, the position of a time, bends
 pub record Values : Type 0 where
   -- the four rates, and 16 for no other; 29 frames stand for 30 / 1.001 of them, which are the bits 41EFC29E
-  pub rates : Answers 0 header.Fps.«from_int».Kinds.ps header.Fps.«from_int».Kinds.r header.Fps.«from_int».Reads.Learnt (λ κs. triedFps)
+  pub rates : Answers header.Fps.«from_int».Reads.Learnt (λ κs. triedFps)
       (λ κs a. pick (among (24 ∷ 25 ∷ 29 ∷ 30 ∷ []) (a .0)) (gives (a .0)) (refuses 16))
-  pub frames : Always 0 header.Fps.«as_f32».Kinds.ps header.Fps.«as_f32».Kinds.r header.Fps.«as_f32».Reads.Learnt (λ κs a z e.
+  pub frames : Always header.Fps.«as_f32».Reads.Learnt (λ κs a z e.
       (rateOf (a .0) ≡ 24 → toBits binary32 z ≡ 0x41C00000) × (rateOf (a .0) ≡ 25 → toBits binary32 z ≡ 0x41C80000)
       × (rateOf (a .0) ≡ 29 → toBits binary32 z ≡ 0x41EFC29E) × (rateOf (a .0) ≡ 30 → toBits binary32 z ≡ 0x41F00000))
   -- ((3600 hour + 60 minute + second) times the rate's number + frame) times 100 + subframe
-  pub position : Always 0 header.SmpteTime.position.Kinds.ps header.SmpteTime.position.Kinds.r header.SmpteTime.position.Reads.Learnt (λ κs a z e. (n : ℕ) → askedPosition z ≡ gives n
+  pub position : Always header.SmpteTime.position.Reads.Learnt (λ κs a z e. (n : ℕ) → askedPosition z ≡ gives n
       → n ≡ ((3600 * a .0 .hour + 60 * a .0 .minute + a .0 .second) * rateOf (a .0 .fps) + a .0 .frame) * 100 + a .0 .subframe)
   -- the signed bend runs from -8,192 to 8,191, raw less 8,192
-  pub bend-min : Answers 0 midi.PitchBend.«min_raw_value».Kinds.ps midi.PitchBend.«min_raw_value».Kinds.r midi.PitchBend.«min_raw_value».Reads.Learnt (λ κs z. z .0 .0) (λ κs a. 0)
-  pub bend-mid : Answers 0 midi.PitchBend.«mid_raw_value».Kinds.ps midi.PitchBend.«mid_raw_value».Kinds.r midi.PitchBend.«mid_raw_value».Reads.Learnt (λ κs z. z .0 .0) (λ κs a. 8192)
-  pub bend-max : Answers 0 midi.PitchBend.«max_raw_value».Kinds.ps midi.PitchBend.«max_raw_value».Kinds.r midi.PitchBend.«max_raw_value».Reads.Learnt (λ κs z. z .0 .0) (λ κs a. 16383)
-  pub bend-int : Answers 0 midi.PitchBend.«as_int».Kinds.ps midi.PitchBend.«as_int».Kinds.r midi.PitchBend.«as_int».Reads.Learnt (λ κs. bendInt)
+  pub bend-min : Answers midi.PitchBend.«min_raw_value».Reads.Learnt (λ κs z. z .0 .0) (λ κs a. 0)
+  pub bend-mid : Answers midi.PitchBend.«mid_raw_value».Reads.Learnt (λ κs z. z .0 .0) (λ κs a. 8192)
+  pub bend-max : Answers midi.PitchBend.«max_raw_value».Reads.Learnt (λ κs z. z .0 .0) (λ κs a. 16383)
+  pub bend-int : Answers midi.PitchBend.«as_int».Reads.Learnt (λ κs. bendInt)
       (λ κs a. pick (leb (a .0 .0 .0) 16383) (gives (pos (a .0 .0 .0) -ℤ pos 8192)) (refuses 18))
 
 -- document 01, "Lists": records past the count are delta 0, `EndOfTrack`
@@ -111,7 +108,7 @@ LeftBehind rules raw at running (refusedAt n used after) left = left ≡ statusL
 -- lists and payloads
 pub record Records : Type 0 where
   -- a list has 128 records, and behind its count nothing but fillers
-  pub list-new : Answers 0 track.list.EventList.new.Kinds.ps track.list.EventList.new.Kinds.r track.list.EventList.new.Reads.Learnt (λ κs z. heldOf z) (λ κs a. record { records = replicate 128 pastCount; count = 0 })
+  pub list-new : Answers track.list.EventList.new.Reads.Learnt (λ κs z. heldOf z) (λ κs a. record { records = replicate 128 pastCount; count = 0 })
   pub list-read : EventListRead (λ raw at running rules r.
       (length (listRead r .list .records) ≡ 128)
       × (drop (listRead r .list .count) (listRead r .list .records) ≡ replicate (128 - listRead r .list .count) pastCount))
@@ -122,19 +119,19 @@ pub record Records : Type 0 where
 -- what a refusal leaves
 pub record Left : Type 0 where
   -- where the running status is handed back, and where it is lent: `read_event` promises `Leaves`
-  pub read-step : Always 1 events.running.«read_step».Kinds.ps events.running.«read_step».Kinds.r events.running.«read_step».Reads.Learnt (λ κs a z e.
-      LeftBehind (a .1 .1 .1 .0) (now (a .0)) (a .1 .0) (a .1 .1 .0) (eventRead (z .read)) (z .running .status))
+  pub read-step : Always events.running.«read_step».Reads.Learnt (λ κs a z e.
+      LeftBehind (fourth a) (now (first a)) (second a) (third a) (eventRead (z .read)) (z .running .status))
   pub lent : (raw : List ℕ) (at : ℕ) (running : Running) (rules : Rules) (r : ReadEvent) (left : Running)
       → Leaves (eventAt (rulesOf rules) (running .status) raw at) r left → LeftBehind rules raw at running (eventRead r) (left .status)
 
 -- what a caller hands over
 pub record Given : Type 0 where
   -- flags: bit 0 alone is strict
-  pub flags : Always 0 loader.rules.Kinds.ps loader.rules.Kinds.r loader.rules.Reads.Learnt (λ κs a z e.
+  pub flags : Always loader.rules.Reads.Learnt (λ κs a z e.
       ((n : ℕ) → a .0 ≡ 2 * n → z .strict ≡ false) × ((n : ℕ) → a .0 ≡ 2 * n + 1 → z .strict ≡ true))
   -- a row of ten cells that is not all there is no event's: 18
-  pub row-short : Always 1 rows.back.«row_event_at».Kinds.ps rows.back.«row_event_at».Kinds.r rows.back.«row_event_at».Reads.Learnt (λ κs a z e.
-      length (now (a .0)) < a .1 .0 + 10 → rowAnswer z ≡ refuses 18)
+  pub row-short : Always rows.back.«row_event_at».Reads.Learnt (λ κs a z e.
+      length (now (first a)) < second a + 10 → rowAnswer z ≡ refuses 18)
 
 -- document 01: writing checks 1, then what forbids the event, 18, 19, 22, 23 in that order, then 20. An `Unknown` can be refused by each of them
 pub record EventOrder (running : ℕ) (judged : Answer (Event (List ℕ))) (bytes : List ℕ) (e : Event Span) (out : List ℕ) (at : ℕ) (answer : Answer ℕ) : Type 0 where

@@ -4,7 +4,6 @@ use mathlib.Core.Path.{_≡_}
 use mathlib.Core.List.{List, _++_, map}
 use mathlib.Core.Logic.{_↔_}
 use Prim.Native.Nat.{ℕ, _≤_}
-use denote.Ref.{now}
 use borrow.Fn.Kinds.{GoodsP}
 use lib.ListN.{length, take, drop}
 use Rattle.smf.specs.Answer.{Answer, gives, Rules, strictOf}
@@ -12,7 +11,7 @@ use Rattle.smf.specs.Place.{Span}
 use Rattle.smf.specs.Event.{Event, Same}
 use Rattle.smf.specs.Lists.{readList, ReadsAs, recordsJudged, ended, ListHeld, wrote, refusesAt, ListWritten, writeList, SameList}
 use Rattle.base.specs.Rules.{rulesOf}
-use Rattle.base.specs.declared.Rules as number
+use Rattle.base.specs.declared.Rules as base
 use Rattle.base.specs.declared.Running.{Running}
 use Rattle.event.specs.Event.{eventOf}
 use Rattle.event.specs.declared.TrackEvent.{TrackEvent}
@@ -26,6 +25,7 @@ use Rattle.write.specs.ListAnswers.{wroteList}
 use Rattle.write.specs.declared.answer.WroteEvent.{WroteEvent}
 use Rattle.write.specs.declared.answer.WroteList.{WroteList}
 use Rattle.write.proofs.records.write_list as write-list
+use Rattle.claims.specs.Calls as shown
 use Rattle.claims.specs.Calls.{Always, EventListRead, WriteEvent, WriteList, WriteRows}
 
 module _ (rules : Rules) (most running : ℕ) where
@@ -75,22 +75,21 @@ pub record ReadBack (raw : List ℕ) (r : ListHeld) (n after : ℕ) (bytes : Lis
   pub same : SameList raw (r .list .records) (r .list .count) bytes records count
 
 -- a call of `write_list` whose arguments are values of their types, as those of every call are: an array then has all its elements
-abbrev pub WriteOwnedList : (EventList → Running → number.Rules → List ℕ → List ℕ → WroteList → List ℕ → Type 0) → Type 0
+abbrev pub WriteOwnedList : (EventList → Running → base.Rules → List ℕ → List ℕ → WroteList → List ℕ → Type 0) → Type 0
 WriteOwnedList Claim =
-    Always 2 write-list.Kinds.ps write-list.Kinds.r write-list.Reads.Learnt
-    (λ κs a r e. GoodsP κs write-list.Kinds.ps a
-    → Claim (a .0) (a .1 .0) (a .1 .1 .0) (now (a .1 .1 .1 .0)) (now (a .1 .1 .1 .1 .0)) r (now (e .1 .1 .1 .1 .0)))
+    Always write-list.Reads.Learnt
+    (λ κs a r e. GoodsP κs write-list.Kinds.ps a → shown.writeList Claim κs a r e)
 
 -- a list that `write_list` wrote: what `EventList::read` reads of its bytes, by the same rules, strictly, and from the same running status
-module _ (list : EventList) (running : Running) (rules : number.Rules) (bytes : List ℕ) (w : ListWritten) (n : ℕ) where
-  abbrev pub ReadAgain : List ℕ → ℕ → Running → number.Rules → ReadList → Type 0
+module _ (list : EventList) (running : Running) (rules : base.Rules) (bytes : List ℕ) (w : ListWritten) (n : ℕ) where
+  abbrev pub ReadAgain : List ℕ → ℕ → Running → base.Rules → ReadList → Type 0
   ReadAgain raw at running′ rules′ r =
       raw ≡ take n (w .buffer) → at ≡ 0 → running′ ≡ running → rulesOf rules′ ≡ strictOf (rulesOf rules)
       → ReadBack raw (listRead r) n (w .running) bytes (map recordOf (list .records)) (list .count)
 
 -- an event whose bytes were written at the front of a buffer, and another whose bytes the first begin with, by the same rules, strict or not
-module _ (e : TrackEvent) (running : Running) (rules : number.Rules) (bytes own : List ℕ) where
-  abbrev pub NeverBegins : TrackEvent → Running → number.Rules → List ℕ → List ℕ → ℕ → WroteEvent → List ℕ → Type 0
+module _ (e : TrackEvent) (running : Running) (rules : base.Rules) (bytes own : List ℕ) where
+  abbrev pub NeverBegins : TrackEvent → Running → base.Rules → List ℕ → List ℕ → ℕ → WroteEvent → List ℕ → Type 0
   NeverBegins e′ running′ rules′ bytes′ out at r end =
       (n : ℕ) (more : List ℕ) → at ≡ 0 → running′ ≡ running → strictOf (rulesOf rules′) ≡ strictOf (rulesOf rules) → wroteEvent r end .written .answer ≡ gives n
       → own ≡ take n end ++ more → Same bytes (eventOf e) bytes′ (eventOf e′)

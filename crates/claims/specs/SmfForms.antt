@@ -138,11 +138,11 @@ pub record SmfForms : Type 0 where
       → (e : Event (List ℕ)) × (legal (rulesOf rules) bytes (eventOf event) ≡ gives e)
       × Fewest (EventForm (running .status) e (wroteEvent r end .running)) (between at n end))
   -- format and timing; bytes beyond the two are ignored
-  pub format-read : Always 1 header.format.Format.read.Kinds.ps header.format.Format.read.Kinds.r header.format.Format.read.Reads.Learnt (λ κs a r e.
+  pub format-read : Always header.format.Format.read.Reads.Learnt (λ κs a r e.
       (f high low : ℕ) (more : List ℕ) → FormatForm f high low → now (a .0) ≡ high ∷ low ∷ more → formatRead r ≡ gives f)
-  pub format-written : Always 0 header.format.Format.encode.Kinds.ps header.format.Format.encode.Kinds.r header.format.Format.encode.Reads.Learnt (λ κs a r e.
+  pub format-written : Always header.format.Format.encode.Reads.Learnt (λ κs a r e.
       (high : ℕ) × (low : ℕ) × FormatForm (formatOf (a .0)) high low × (r ≡ high ∷ low ∷ []))
-  pub timing-read : Always 1 header.timing.Timing.read.Kinds.ps header.timing.Timing.read.Kinds.r header.timing.Timing.read.Reads.Learnt (λ κs a r e.
+  pub timing-read : Always header.timing.Timing.read.Reads.Learnt (λ κs a r e.
       (t : smf.Timing) (high low : ℕ) (more : List ℕ) → TimingForm t high low → now (a .0) ≡ high ∷ low ∷ more → timingRead r ≡ gives t)
-  pub timing-written : Always 0 header.timing.Timing.encode.Kinds.ps header.timing.Timing.encode.Kinds.r header.timing.Timing.encode.Reads.Learnt (λ κs a r e.
+  pub timing-written : Always header.timing.Timing.encode.Reads.Learnt (λ κs a r e.
       (bytes : List ℕ) → timingEncoded r ≡ gives bytes → (high : ℕ) × (low : ℕ) × TimingForm (timingOf (a .0)) high low × (bytes ≡ high ∷ low ∷ []))
