@@ -17,6 +17,12 @@ use crate::{
 
 /// A running status of each kind, and none.
 const EACH: [u8; 8] = [0x00, 0x80, 0x90, 0xA7, 0xBF, 0xC5, 0xD0, 0xEF];
+/// What four bytes are to show; 12 and 13 take more.
+const FOUR: &[u8] = if cfg!(feature = "strict") {
+    &[0, 2, 3, 4, 5, 6, 7, 8, 9, 10, 11, 14]
+} else {
+    &[0, 4, 5, 6, 7, 8, 9, 10, 14]
+};
 /// Around the ends of the fields' ranges.
 const FIELDS: [u8; 19] = [0, 1, 2, 15, 16, 22, 23, 24, 28, 29, 30, 59, 60, 61, 99, 100, 127, 128, 255];
 const STATUSES: [u8; 8] = [0xFF, 0xF0, 0xF7, 0x90, 0xC0, 0xE3, 0xF8, 0xF1];
@@ -25,6 +31,7 @@ const LENGTHS: [u8; 9] = [0, 1, 2, 3, 4, 5, 6, 0x7F, 0x80];
 
 struct Events {
     short: Entry,
+    four: Option<Entry>,
     status: Entry,
     types: Entry,
     sample: Entry,
@@ -39,6 +46,7 @@ pub fn run(mut random: Random, full: bool) -> Vec<Entry> {
     };
     let mut it = Events {
         short: Entry::new("apk_event_read, up to three bytes", &[0, 4, 5, 6, 7, 8, 9]).counting(&KINDS),
+        four: Some(Entry::new("apk_event_read, every four bytes", &FOUR).counting(&KINDS)).filter(|_| full),
         status: Entry::new("apk_event_read, a status and every two bytes behind it", &[0, 5, 6, 7, 9]).counting(&KINDS),
         types: Entry::new("apk_event_read, every meta type", &[0, 4, 10, 13, 14]).counting(&KINDS),
         sample: Entry::new("apk_event_read, up to 23 bytes at places", due).counting(&KINDS),
@@ -48,11 +56,16 @@ pub fn run(mut random: Random, full: bool) -> Vec<Entry> {
     every.iter().for_each(|&running| it.two_bytes(running));
     let runnings = if full { &every[..] } else { &[0x00, 0x90][..] };
     runnings.iter().for_each(|&running| it.three_bytes(running));
+    if let Some(entry) = &mut it.four {
+        EACH.iter().for_each(|&running| four_bytes(entry, running));
+    }
     it.every_status(full);
     it.every_type(&mut random, if full { 4000 } else { 60 });
     it.sample(&mut random, if full { 100_000_000 } else { 3_000_000 });
     it.strings(&mut random, if full { 100_000_000 } else { 2_000_000 });
-    vec![it.short, it.status, it.types, it.sample, it.strings]
+    let mut entries = vec![it.short, it.status, it.types, it.sample, it.strings];
+    entries.extend(it.four);
+    entries
 }
 
 // ---- what is compared
@@ -137,6 +150,43 @@ impl Events {
             one(&mut self.strings, bytes, at, running);
         }
     }
+}
+
+/// Every string of four bytes. The port is asked each of them. The Rust reads the delta first, by `u28::read_u7`, and
+/// does not look back: its number reader is asked each string, and its event reader once for all strings whose deltas
+/// are as long and that are alike behind them, with the delta of each put in.
+fn four_bytes(entry: &mut Entry, running: u8) {
+    for length in 1..=4 {
+        for rest in 0..1u32 << (8 * (4 - length)) {
+            let mut alike = [None; 2];
+            for delta in 0..1u32 << (7 * length + length / 4) {
+                four(entry, four_of(delta, length, rest), running, &mut alike);
+            }
+        }
+    }
+}
+
+/// The bytes of a delta of some length, of which the fourth alone may have its highest bit set, and the rest behind it.
+fn four_of(delta: u32, length: u32, rest: u32) -> [u8; 4] {
+    let mut bytes = rest.to_be_bytes();
+    let mut left = delta;
+    for i in (0..length as usize).rev() {
+        let (width, high) = if i == 3 { (8, 0) } else { (7, if i + 1 < length as usize { 0x80 } else { 0 }) };
+        bytes[i] = high | (left & ((1 << width) - 1)) as u8;
+        left >>= width;
+    }
+    bytes
+}
+
+/// One of them; with the Rust's answers to those before it that are alike, where the delta is refused and where not.
+fn four(entry: &mut Entry, bytes: [u8; 4], running: u8, alike: &mut [Option<Answer>; 2]) {
+    let delta = u28::read_u7(&mut &bytes[..]);
+    let mut answer = *alike[delta.is_ok() as usize].get_or_insert_with(|| rust(&bytes, 0, running));
+    if let (Some(row), Ok(delta)) = (&mut (answer.1).0, delta) {
+        row[0] = delta.as_int() as u64;
+        entry.of_kind(kinds::of(row));
+    }
+    entry.compare(answer, port::event_read(&bytes, 0, running), bytes.len(), || told(&bytes, 0, running));
 }
 
 fn one(entry: &mut Entry, bytes: &[u8], at: usize, running: u8) {
