@@ -12,6 +12,7 @@ pub mod Shortest
 pub mod Identical
 pub mod Point1
 pub mod Point2
+pub mod Bytes
 pub mod Point3
 pub mod Point3Calls
 pub mod All

@@ -1,15 +1,15 @@
 -- Point 3, of every list and buffer: a list is written exactly when it is legal and some bytes that fit read strictly as it; what is written
 -- reads so, no bytes that do are fewer, and no other byte changes. No event's bytes begin with those of a different one.
 use mathlib.Core.Path.{_≡_}
-use mathlib.Core.List.{List, _++_, map}
+use mathlib.Core.List.{List, [], _∷_, _++_, map}
 use mathlib.Core.Logic.{_↔_}
-use Prim.Native.Nat.{ℕ, _≤_}
+use Prim.Native.Nat.{ℕ, _≤_, _<_}
 use denote.Ref.{now}
 use borrow.Fn.Kinds.{GoodsP}
 use lib.ListN.{length, take, drop}
 use Rattle.smf.specs.Answer.{Answer, gives, Rules, strictOf}
 use Rattle.smf.specs.Place.{Span}
-use Rattle.smf.specs.Event.{Event, Same}
+use Rattle.smf.specs.Event.{Event, Carried, nothing, owned, untold, carries, Same}
 use Rattle.smf.specs.Lists.{readList, ReadsAs, recordsJudged, ended, ListHeld, wrote, refusesAt, ListWritten, writeList, SameList}
 use Rattle.base.specs.Rules.{rulesOf}
 use Rattle.base.specs.declared.Rules as number
@@ -28,15 +28,32 @@ use Rattle.write.specs.declared.answer.WroteList.{WroteList}
 use Rattle.write.proofs.records.write_list as write-list
 use Rattle.claims.specs.Calls.{Always, EventListRead, WriteEvent, WriteList, WriteRows}
 
+-- numbers that are bytes
+abbrev pub Bytes : List ℕ → Type 0
+Bytes [] = Unit {0}
+Bytes (b ∷ s) = (b < 256) × Bytes s
+
+-- what events carry is bytes: a payload, and the type of an `Unknown`
+abbrev pub BytesCarried : Carried (List ℕ) → Type 0
+BytesCarried nothing = Unit {0}
+BytesCarried (owned p) = Bytes p
+BytesCarried (untold t p) = (t < 256) × Bytes p
+
+abbrev pub CarryBytes : List (Event (List ℕ)) → Type 0
+CarryBytes [] = Unit {0}
+CarryBytes (e ∷ es) = BytesCarried (carries (e .kind)) × CarryBytes es
+
 module _ (rules : Rules) (most running : ℕ) where
   -- document 01: bytes that read strictly as these events
   abbrev pub ReadsStrictly : List (Event (List ℕ)) → List ℕ → Type 0
   ReadsStrictly es s = ReadsAs (strictOf rules) most running s es
 
   module _ (judged : List (Answer (Event (List ℕ)))) (count : ℕ) (buffer : List ℕ) where
-    -- no more events than may be, each legal, and some bytes that fit the buffer and read strictly as them
+    -- no more events than may be, each legal, and some bytes that fit the buffer and read strictly as them: bytes, where what the events carry is
     abbrev pub Fits : Type 0
-    Fits = (count ≤ most) × ((es : List (Event (List ℕ))) × (take count judged ≡ map gives es) × ((s : List ℕ) × (length s ≤ length buffer) × ReadsStrictly es s))
+    Fits =
+        (count ≤ most) × ((es : List (Event (List ℕ))) × (take count judged ≡ map gives es)
+        × ((s : List ℕ) × (length s ≤ length buffer) × ReadsStrictly es s × (CarryBytes es → Bytes s)))
 
     -- document 01: an accepted write gives its length and the running status after it, and writes no byte beyond
     pub record Accepted (w : ListWritten) (n : ℕ) : Type 0 where
