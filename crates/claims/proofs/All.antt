@@ -12,6 +12,8 @@ use Rattle.claims.proofs.Point1.{point-1}
 use Rattle.claims.proofs.Point2.{point-2}
 use Rattle.claims.proofs.Point3.{writes}
 use Rattle.claims.proofs.Point3Calls.{point-3}
+use Rattle.claims.proofs.SmfForms.{smf-forms}
+use Rattle.claims.proofs.Literals.{literals}
 
 pub all : All
 all =
@@ -29,4 +31,6 @@ all =
       point-3 = point-3;
       entry-point-3 = entry-point-3;
       writes = writes;
+      smf-forms = smf-forms;
+      literals = literals;
     }

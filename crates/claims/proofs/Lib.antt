@@ -5,6 +5,9 @@ pub mod ReadLeaves
 pub mod Stands
 pub mod EventWrites
 pub mod ListLeaves
+pub mod SmfReads
+pub mod SmfForms
+pub mod Literals
 pub mod Worked
 pub mod Shortest
 pub mod LentRunning
@@ -13,6 +16,7 @@ pub mod Identical
 pub mod Entries
 pub mod Point1
 pub mod Point2
+pub mod Bytes
 pub mod Point3
 pub mod Point3Calls
 pub mod EntrySays

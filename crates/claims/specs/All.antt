@@ -10,6 +10,8 @@ use Rattle.claims.specs.EntryPoint3.{EntryPoint3}
 use Rattle.claims.specs.Point1.{Point1}
 use Rattle.claims.specs.Point2.{Point2}
 use Rattle.claims.specs.Point3.{Writes, Point3}
+use Rattle.claims.specs.SmfForms.{SmfForms}
+use Rattle.claims.specs.Literals.{Literals}
 
 pub record All : Type 2 where
   -- document 01's worked bytes, P1 to P12
@@ -31,3 +33,7 @@ pub record All : Type 2 where
   pub point-3 : Point3
   pub entry-point-3 : EntryPoint3
   pub writes : Writes
+  -- point 2's clauses of SMF: what is in its form is read as it stands, and what is written is in its form
+  pub smf-forms : SmfForms
+  -- document 01's numbers, orders and forms, as literals
+  pub literals : Literals

@@ -1,14 +1,15 @@
 -- Point 3, of every list and buffer: a list is written exactly when it is legal and some bytes that fit read strictly as it; what is written
 -- reads so, no bytes that do are fewer, and no other byte changes. No event's bytes begin with those of a different one.
 use mathlib.Core.Path.{_≡_}
-use mathlib.Core.Bool.{true}
-use mathlib.Core.List.{List, _++_, map}
+use mathlib.Core.List.{List, [], _∷_, _++_, map}
 use mathlib.Core.Logic.{_↔_}
-use Prim.Native.Nat.{ℕ, _≤_}
+use Prim.Native.Nat.{ℕ, _≤_, _<_}
+use denote.Ref.{now}
+use borrow.Fn.Kinds.{GoodsP}
 use lib.ListN.{length, take, drop}
 use Rattle.smf.specs.Answer.{Answer, gives, Rules, strictOf}
 use Rattle.smf.specs.Place.{Span}
-use Rattle.smf.specs.Event.{Event, Same}
+use Rattle.smf.specs.Event.{Event, Carried, nothing, owned, untold, carries, Same}
 use Rattle.smf.specs.Lists.{readList, ReadsAs, recordsJudged, ended, ListHeld, wrote, refusesAt, ListWritten, writeList, SameList}
 use Rattle.base.specs.Rules.{rulesOf}
 use Rattle.base.specs.declared.Rules as number
@@ -23,7 +24,24 @@ use Rattle.rows.specs.RowLists.{rowsJudged}
 use Rattle.write.specs.Wrote.{wroteEvent}
 use Rattle.write.specs.ListAnswers.{wroteList}
 use Rattle.write.specs.declared.answer.WroteEvent.{WroteEvent}
-use Rattle.claims.specs.Calls.{EventListRead, WriteEvent, WriteList, WriteRows}
+use Rattle.write.specs.declared.answer.WroteList.{WroteList}
+use Rattle.write.proofs.records.write_list as write-list
+use Rattle.claims.specs.Calls.{Always, EventListRead, WriteEvent, WriteList, WriteRows}
+
+-- numbers that are bytes
+abbrev pub Bytes : List ℕ → Type 0
+Bytes [] = Unit {0}
+Bytes (b ∷ s) = (b < 256) × Bytes s
+
+-- what events carry is bytes: a payload, and the type of an `Unknown`
+abbrev pub BytesCarried : Carried (List ℕ) → Type 0
+BytesCarried nothing = Unit {0}
+BytesCarried (owned p) = Bytes p
+BytesCarried (untold t p) = (t < 256) × Bytes p
+
+abbrev pub CarryBytes : List (Event (List ℕ)) → Type 0
+CarryBytes [] = Unit {0}
+CarryBytes (e ∷ es) = BytesCarried (carries (e .kind)) × CarryBytes es
 
 module _ (rules : Rules) (most running : ℕ) where
   -- document 01: bytes that read strictly as these events
@@ -31,9 +49,11 @@ module _ (rules : Rules) (most running : ℕ) where
   ReadsStrictly es s = ReadsAs (strictOf rules) most running s es
 
   module _ (judged : List (Answer (Event (List ℕ)))) (count : ℕ) (buffer : List ℕ) where
-    -- no more events than may be, each legal, and some bytes that fit the buffer and read strictly as them
+    -- no more events than may be, each legal, and some bytes that fit the buffer and read strictly as them: bytes, where what the events carry is
     abbrev pub Fits : Type 0
-    Fits = (count ≤ most) × ((es : List (Event (List ℕ))) × (take count judged ≡ map gives es) × ((s : List ℕ) × (length s ≤ length buffer) × ReadsStrictly es s))
+    Fits =
+        (count ≤ most) × ((es : List (Event (List ℕ))) × (take count judged ≡ map gives es)
+        × ((s : List ℕ) × (length s ≤ length buffer) × ReadsStrictly es s × (CarryBytes es → Bytes s)))
 
     -- document 01: an accepted write gives its length and the running status after it, and writes no byte beyond
     pub record Accepted (w : ListWritten) (n : ℕ) : Type 0 where
@@ -71,6 +91,13 @@ pub record ReadBack (raw : List ℕ) (r : ListHeld) (n after : ℕ) (bytes : Lis
   pub status : r .running ≡ after
   pub same : SameList raw (r .list .records) (r .list .count) bytes records count
 
+-- a call of `write_list` whose arguments are values of their types, as those of every call are: an array then has all its elements
+abbrev pub WriteOwnedList : (EventList → Running → number.Rules → List ℕ → List ℕ → WroteList → List ℕ → Type 0) → Type 0
+WriteOwnedList Claim =
+    Always write-list.Reads.Learnt
+    (λ κs a r e. GoodsP κs write-list.Kinds.ps a
+    → Claim (a .0) (a .1 .0) (a .1 .1 .0) (now (a .1 .1 .1 .0)) (now (a .1 .1 .1 .1 .0)) r (now (e .1 .1 .1 .1 .0)))
+
 -- a list that `write_list` wrote: what `EventList::read` reads of its bytes, by the same rules, strictly, and from the same running status
 module _ (list : EventList) (running : Running) (rules : number.Rules) (bytes : List ℕ) (w : ListWritten) (n : ℕ) where
   abbrev pub ReadAgain : List ℕ → ℕ → Running → number.Rules → ReadList → Type 0
@@ -92,11 +119,9 @@ pub record Point3 : Type 0 where
   -- `write_rows` in the same way, of its rows as they are judged
   pub writes-rows : WriteRows (λ rows count running rules bytes out r end.
       ListWriteSays (rulesOf rules) capacity (running .status) (rowsJudged (rulesOf rules) bytes count rows) count out (wroteList r end))
-  -- what `write_list` writes, `EventList::read` reads strictly as the same list, all bytes used, and ends in the same running status; the array of
-  -- every list has capacity records
-  pub reads-back : WriteList (λ list running rules bytes out r end.
-      (n : ℕ) → wroteList r end .answer ≡ wrote n → length (list .records) ≡ capacity
-      → EventListRead (ReadAgain list running rules bytes (wroteList r end) n))
+  -- what `write_list` writes, `EventList::read` reads strictly as the same list, all bytes used, and ends in the same running status
+  pub reads-back : WriteOwnedList (λ list running rules bytes out r end.
+      (n : ℕ) → wroteList r end .answer ≡ wrote n → EventListRead (ReadAgain list running rules bytes (wroteList r end) n))
   -- `write_event`, twice from one running status and by the same rules, each time at the front of a buffer: where the bytes of one event
   -- begin with those of the other, the events are the same, whatever bytes their payloads are in
   pub prefix-free : WriteEvent (λ e running rules bytes out at r end.
