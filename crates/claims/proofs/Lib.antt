@@ -17,6 +17,7 @@ pub mod Entries
 pub mod Point1
 pub mod Point2
 pub mod Bytes
+pub mod Carried
 pub mod Point3
 pub mod Point3Calls
 pub mod EntrySays

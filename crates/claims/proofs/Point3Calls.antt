@@ -36,13 +36,15 @@ use Rattle.track.specs.declared.list.EventList.{EventList}
 use Rattle.rows.specs.RowLists.{rowsJudged}
 use Rattle.write.specs.Wrote.{wroteEvent}
 use Rattle.write.specs.ListAnswers.{wroteList}
+use Rattle.write.specs.declared.answer.WroteList.{WroteList}
 use Rattle.write.specs.declared.answer.WroteEvent.{WroteEvent}
 use Rattle.write.specs.declared.answer.WroteEvent.the-variants as event
-use Rattle.claims.specs.Point3.{Accepted, ListWriteSays, ReadBack, ReadAgain, NeverBegins, Point3}
+use Rattle.claims.specs.Point3.{Bytes, TypeBytes, FitsAsBytes, Accepted, ListWriteSays, ReadBack, ReadAgain, NeverBegins, Point3}
 use Rattle.claims.specs.Calls.{EventListRead, WriteEvent}
 use Rattle.claims.proofs.Calls as calls
 use Rattle.claims.proofs.Point3.{rows-lawful, list-write-says, writes}
 use Rattle.claims.proofs.Refusals.{legal-by}
+use Rattle.claims.proofs.Carried.{records-carry, rows-carry, fits-as-bytes}
 use Rattle.claims.proofs.EventWrites.{event-wrote}
 
 -- what the answer's meaning says of the buffer at the end
@@ -159,6 +161,25 @@ never e running rules bytes out at r end told n z h =
     (wroteEvent r end) (wroteEvent r′ end′) (ap (λ (x : Running). x .status) same) alike told z h told′ z′ h′ more
     (rw (event-end r end, event-end r′ end′) q))
 
+records-fit : (list : EventList) (running : Running) (rules : number.Rules) (bytes out : List ℕ) (r : WroteList) (end : List ℕ)
+    → wroteList r end ≡ writeList capacity (running .status) (recordsJudged (rulesOf rules) bytes (map recordOf (list .records))) (list .count) out
+    → (n : ℕ) → wroteList r end .answer ≡ wrote n → Bytes bytes → TypeBytes (map recordOf (list .records))
+    → FitsAsBytes (rulesOf rules) capacity (running .status) (recordsJudged (rulesOf rules) bytes (map recordOf (list .records))) (list .count) out
+records-fit list running rules bytes out r end told n h payload types =
+    let records = map recordOf (list .records) in
+    fits-as-bytes bytes payload (rulesOf rules) capacity (running .status) (recordsJudged (rulesOf rules) bytes records) (list .count) out (records-carry bytes payload (rulesOf rules) records types)
+    (writes (rulesOf rules) capacity (running .status) bytes records (list .count) out .accepts .0 (n, sym (ap (λ (w : ListWritten). w .answer) told) ∙ h))
+
+rows-fit : (rows : List ℕ) (count : ℕ) (running : Running) (rules : number.Rules) (bytes out : List ℕ) (r : WroteList) (end : List ℕ)
+    → wroteList r end ≡ writeList capacity (running .status) (rowsJudged (rulesOf rules) bytes count rows) count out
+    → (n : ℕ) → wroteList r end .answer ≡ wrote n → Bytes bytes
+    → FitsAsBytes (rulesOf rules) capacity (running .status) (rowsJudged (rulesOf rules) bytes count rows) count out
+rows-fit rows count running rules bytes out r end told n h payload =
+    let judged = rowsJudged (rulesOf rules) bytes count rows in
+    fits-as-bytes bytes payload (rulesOf rules) capacity (running .status) judged count out (rows-carry bytes payload (rulesOf rules) count rows)
+    (list-write-says (rulesOf rules) capacity (running .status) judged (rows-lawful (rulesOf rules) bytes count rows) count out .accepts .0
+    (n, sym (ap (λ (w : ListWritten). w .answer) told) ∙ h))
+
 pub point-3 : Point3
 point-3 =
     record {
@@ -168,6 +189,8 @@ point-3 =
       writes-rows = calls.write-rows _ (λ rows count running rules bytes out r end told.
           subst (ListWriteSays (rulesOf rules) capacity (running .status) (rowsJudged (rulesOf rules) bytes count rows) count out) (sym told)
           (list-write-says (rulesOf rules) capacity (running .status) (rowsJudged (rulesOf rules) bytes count rows) (rows-lawful (rulesOf rules) bytes count rows) count out));
+      bytes = calls.write-list _ records-fit;
+      bytes-rows = calls.write-rows _ rows-fit;
       reads-back = λ κs a r e told good n h.
           again (a .0) (a .1 .0) (a .1 .1 .0) (now (a .1 .1 .1 .0)) (now (a .1 .1 .1 .1 .0)) (wroteList r (now (e .1 .1 .1 .1 .0))) told n h (full-list κs a good);
       prefix-free = calls.write-event _ never;

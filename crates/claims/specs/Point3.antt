@@ -43,6 +43,16 @@ abbrev pub CarryBytes : List (Event (List ℕ)) → Type 0
 CarryBytes [] = Unit {0}
 CarryBytes (e ∷ es) = BytesCarried (carries (e .kind)) × CarryBytes es
 
+-- the types of the `Unknown` messages of records are bytes, as the code's are
+abbrev pub TypeByte : Carried Span → Type 0
+TypeByte nothing = Unit {0}
+TypeByte (owned p) = Unit {0}
+TypeByte (untold t p) = t < 256
+
+abbrev pub TypeBytes : List (Event Span) → Type 0
+TypeBytes [] = Unit {0}
+TypeBytes (e ∷ es) = TypeByte (carries (e .kind)) × TypeBytes es
+
 module _ (rules : Rules) (most running : ℕ) where
   -- document 01: bytes that read strictly as these events
   abbrev pub ReadsStrictly : List (Event (List ℕ)) → List ℕ → Type 0
@@ -54,6 +64,11 @@ module _ (rules : Rules) (most running : ℕ) where
     Fits =
         (count ≤ most) × ((es : List (Event (List ℕ))) × (take count judged ≡ map gives es)
         × ((s : List ℕ) × (length s ≤ length buffer) × ReadsStrictly es s × (CarryBytes es → Bytes s)))
+
+    -- the same of a byte string, every element of it below 256
+    abbrev pub FitsAsBytes : Type 0
+    FitsAsBytes =
+        (es : List (Event (List ℕ))) × (take count judged ≡ map gives es) × ((s : List ℕ) × (length s ≤ length buffer) × ReadsStrictly es s × Bytes s)
 
     -- document 01: an accepted write gives its length and the running status after it, and writes no byte beyond
     pub record Accepted (w : ListWritten) (n : ℕ) : Type 0 where
@@ -119,6 +134,11 @@ pub record Point3 : Type 0 where
   -- `write_rows` in the same way, of its rows as they are judged
   pub writes-rows : WriteRows (λ rows count running rules bytes out r end.
       ListWriteSays (rulesOf rules) capacity (running .status) (rowsJudged (rulesOf rules) bytes count rows) count out (wroteList r end))
+  -- and what fits is a byte string, where the payload bytes are bytes, and the types of records
+  pub bytes : WriteList (λ list running rules bytes out r end. (n : ℕ) → wroteList r end .answer ≡ wrote n → Bytes bytes → TypeBytes (map recordOf (list .records))
+      → FitsAsBytes (rulesOf rules) capacity (running .status) (recordsJudged (rulesOf rules) bytes (map recordOf (list .records))) (list .count) out)
+  pub bytes-rows : WriteRows (λ rows count running rules bytes out r end. (n : ℕ) → wroteList r end .answer ≡ wrote n → Bytes bytes
+      → FitsAsBytes (rulesOf rules) capacity (running .status) (rowsJudged (rulesOf rules) bytes count rows) count out)
   -- what `write_list` writes, `EventList::read` reads strictly as the same list, all bytes used, and ends in the same running status
   pub reads-back : WriteOwnedList (λ list running rules bytes out r end.
       (n : ℕ) → wroteList r end .answer ≡ wrote n → EventListRead (ReadAgain list running rules bytes (wroteList r end) n))
