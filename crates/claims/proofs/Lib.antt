@@ -19,10 +19,10 @@ pub mod Point2
 pub mod Bytes
 pub mod Carried
 pub mod Point3
+pub mod ReadAgain
 pub mod Point3Calls
 pub mod EntrySays
 pub mod EntryWrites
 pub mod EntryPoint1
-pub mod ReadAgain
 pub mod EntryPoint3
 pub mod All
