@@ -39,7 +39,7 @@ use Rattle.loader_track.specs.Lists.{stopNumber, listGiven, readAnswer}
 use Rattle.claims.specs.Calls.{first, second, third, fourth, fifth, sixth, seventh, eighth, ninth}
 use Rattle.claims.specs.Table.{among, OneOf, By, ofNumber, ofPayload, ofEvent, ofLength}
 use Rattle.claims.specs.Stands.{statusLeft, EventOrLeft, Why}
-use Rattle.claims.specs.EntrySays.{Outcome, Answers}
+use Rattle.claims.specs.EntrySays.{Outcome, AnswersBy}
 use Rattle.claims.specs.EntryPoint1.{NumberRefusals, FieldRefusals, TimeRefusals, BendRefusals, TrackRefusals, SameRefusals, EntryPoint1}
 use Rattle.claims.proofs.Refusals.{allAmong, then-by, by-more, one-of-more, number-at-by, payload-at-by, format-by, rate-by, timing-by, timing-bytes-by, time-by, time-of-by, time-bytes-by, seconds-by, position-by, bend-by, bend-float-by, number-bytes-by, payload-bytes-by, write-keeps, row-by, event-length-by}
 use Rattle.claims.proofs.ReadLeaves.{event-or-left}
@@ -107,10 +107,10 @@ module _ {A : Type 0} (ns : List ℕ) (more : allAmong ns (16 ∷ []) ≡ true) 
       then-by ns (timeGiven hour minute second frame subframe rate) ask
       (then-by ns (toRate rate) _ (by-more ns (16 ∷ []) (toRate rate) more (rate-by rate)) (λ _. tt)) k
 
-  pub asked-keeps : {r : ℕ} (part : A → A) (u : A) {u′ : A} → (r ≡ answered asked) × (u′ ≡ leaves part asked u) → Answers ns r (u′ ≡ u)
+  pub asked-keeps : {r : ℕ} (part : A → A) (u : A) {u′ : A} → (r ≡ answered asked) × (u′ ≡ leaves part asked u) → AnswersBy ns r (u′ ≡ u)
   asked-keeps part u told = keeps₁ ns asked part u asked-by told
 
-  pub asked-answers : {r : ℕ} → r ≡ answered asked → Answers ns r (Unit {0})
+  pub asked-answers : {r : ℕ} → r ≡ answered asked → AnswersBy ns r (Unit {0})
   asked-answers told = rw told (answers ns asked (λ _. Unit {0}) asked-by (λ _. tt))
 
 times : TimeRefusals
@@ -220,7 +220,7 @@ tracks =
     }
 
 -- what was asked of two rows, or of two sets of rows
-handed-keeps : (ns : List ℕ) (x : Answer (Unit {0})) (r before after : ℕ) (Rule : Type 0) → By ns x → Handed r before after x Rule → Answers ns r (after ≡ before)
+handed-keeps : (ns : List ℕ) (x : Answer (Unit {0})) (r before after : ℕ) (Rule : Type 0) → By ns x → Handed r before after x Rule → AnswersBy ns r (after ≡ before)
 handed-keeps ns (gives u) r before after Rule b h = rw (h .0) tt
 handed-keeps ns (refuses zero) r before after Rule b h = absurd (true≢false (sym b))
 handed-keeps ns (refuses (suc n)) r before after Rule b h = rw (h .0) (b, h .1)

@@ -28,12 +28,13 @@ use Rattle.write.proofs.Judging.{rows-length}
 use Rattle.loader.specs.Entry.{fromBits, leaves}
 use Rattle.loader_track.specs.Lists.{sheetPut, readAnswer}
 use Rattle.claims.specs.Calls.{first, second, third, fourth, fifth, sixth, seventh, eighth, ninth}
-use Rattle.claims.specs.Point3.{ListWriteSays}
+use Rattle.claims.specs.Point3.{Bytes, FitsAsBytes, ListWriteSays}
 use Rattle.claims.specs.EntrySays.{said, saidList}
 use Rattle.claims.specs.EntryPoint3.{RowsBack, EntryPoint3}
 use Rattle.claims.proofs.Point3.{rows-lawful, list-write-says}
 use Rattle.claims.proofs.Refusals.{row-by}
 use Rattle.claims.proofs.EventWrites.{event-wrote}
+use Rattle.claims.proofs.Carried.{rows-carry, fits-as-bytes}
 use Rattle.claims.proofs.ReadAgain.{left, own, read, Again, again}
 use Rattle.claims.proofs.EntryWrites.{EventPut, event-put, ListPut, list-put}
 
@@ -116,6 +117,12 @@ module _ (rules : Rules) (running : ℕ) (payload rows : List ℕ) (count : ℕ)
   is : writeList capacity running (rowsJudged rules payload count rows) count out ≡ record { buffer = end; answer = wrote n; running = after }
   is = list-put rules running payload rows count long index out told ∙ ap (λ (x : ℕ). record { buffer = end; answer = saidList x n i; running = after }) z
 
+  entry-bytes : Bytes payload → FitsAsBytes rules capacity running (rowsJudged rules payload count rows) count out
+  entry-bytes are =
+      let judged = rowsJudged rules payload count rows in
+      let says = list-write-says rules capacity running judged (rows-lawful rules payload count rows) count out in
+      fits-as-bytes payload are rules capacity running judged count out (rows-carry payload are rules count rows) (says .accepts .0 (n, ap (λ (l : ListWritten). l .answer) is))
+
   entry-again : (raw : List ℕ) (at running′ : ℕ) (rules′ : Rules) (cells : List ℕ) (c p a : ℕ) {r c′ p′ a′ : ℕ} {cells′ : List ℕ}
       → ReadTold rules′ running′ raw at cells c p a r cells′ c′ p′ a′ → raw ≡ take n end → at ≡ 0 → running′ ≡ running → rules′ .strict ≡ true
       → count * width ≤ length cells
@@ -194,6 +201,8 @@ entry-point-3 =
           subst (ListWriteSays rules capacity (fourth a) judged (second a) (now (sixth a)))
           (list-put rules (fourth a) (now (third a)) (now (first a)) (second a) (now (seventh a)) (now (ninth a)) (now (sixth a)) told)
           (list-write-says rules capacity (fourth a) judged (rows-lawful rules (now (third a)) (second a) (now (first a))) (second a) (now (sixth a)));
+      bytes = λ κs a r e told z.
+          entry-bytes (fromBits (fifth a)) (fourth a) (now (third a)) (now (first a)) (second a) (now (sixth a)) (now (seventh a)) (now (ninth a)) told z;
       reads-back = λ κs a r e told z κs′ a′ r′ e′ told′.
           entry-again (fromBits (fifth a)) (fourth a) (now (third a)) (now (first a)) (second a) (now (sixth a)) (now (seventh a)) (now (ninth a)) told z
           (now (first a′)) (second a′) (third a′) (fromBits (fourth a′)) (now (fifth a′)) (now (sixth a′)) (now (seventh a′)) (now (eighth a′)) told′;

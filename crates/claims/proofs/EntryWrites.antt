@@ -12,7 +12,7 @@ use Rattle.loader.specs.Entry.{answered, leaves}
 use Rattle.loader_track.specs.Lists.{numberAnswered, lengthLeft, indexLeft}
 use Rattle.claims.specs.Table.{By, ofWriting, ofListLength, ofListWriting}
 use Rattle.claims.specs.Leaves.{EventLeaves, SizeLeaves, ListLeaves}
-use Rattle.claims.specs.EntrySays.{Outcome, Answers, said, saidList}
+use Rattle.claims.specs.EntrySays.{Outcome, AnswersBy, said, saidList}
 use Rattle.claims.proofs.Refusals.{row-by}
 use Rattle.claims.proofs.EventWrites.{event-leaves}
 use Rattle.claims.proofs.ListLeaves.{rows-by, size-leaves, list-leaves}
@@ -44,7 +44,7 @@ module _ (rules : Rules) (running : ℕ) (payload : List ℕ) where
     event-put told = event-itself ofWriting written next by told
 
     pub event-write : {r next′ after′ : ℕ} {out′ : List ℕ} → EventPut r out′ next′ after′
-        → Answers ofWriting r (next′ ≡ next) × EventLeaves running at out (record { written = record { buffer = out′; answer = said r next′ }; running = after′ }) (said r next′)
+        → AnswersBy ofWriting r (next′ ≡ next) × EventLeaves running at out (record { written = record { buffer = out′; answer = said r next′ }; running = after′ }) (said r next′)
     event-write told = (
       rw (told .0, told .1 .1 .0) (answers ofWriting (written .written .answer) (λ x. leaves (λ (n : ℕ). n) x next ≡ next) by (λ n. refl)),
       subst (λ (x : EventWritten). EventLeaves running at out x (x .written .answer)) (event-put told) says,

@@ -16,11 +16,13 @@ pub mod Identical
 pub mod Entries
 pub mod Point1
 pub mod Point2
+pub mod Bytes
+pub mod Carried
 pub mod Point3
+pub mod ReadAgain
 pub mod Point3Calls
 pub mod EntrySays
 pub mod EntryWrites
 pub mod EntryPoint1
-pub mod ReadAgain
 pub mod EntryPoint3
 pub mod All

@@ -38,13 +38,16 @@ use Rattle.event.specs.Event.{eventOf, eventRead}
 use Rattle.event.specs.Lent.{readRunning, Leaves}
 use Rattle.event.specs.declared.read.ReadEvent.{ReadEvent}
 use Rattle.track.specs.List.{recordOf}
-use Rattle.rows.specs.RowLists.{rowsJudged}
+use Rattle.rows.specs.RowLists.{areRows, rowsJudged}
+use Rattle.same.specs.OfRows.{listsAsked, Says}
+use Rattle.same.specs.declared.of_rows.Sameness.{Sameness}
+use Rattle.same.specs.declared.of_rows.Sameness.the-variants as sameness
 use Rattle.track.specs.Read.{listRead}
 use Rattle.track.specs.declared.read.ReadList.{ReadList}
 use Rattle.rows.specs.RowEvent.{isRow, eventOfRow}
 use Rattle.claims.specs.Table.{among}
 use Rattle.claims.specs.Stands.{EventOrLeft}
-use Rattle.claims.specs.Literals.{upTo, Widths, Values, pastCount, Records, LeftBehind, Left, Given, EventOrder, ListOrder, Order, Literals}
+use Rattle.claims.specs.Literals.{upTo, Widths, Values, pastCount, Records, LeftBehind, Left, answered, SheetsRefused, Given, EventOrder, ListOrder, Order, Literals}
 use Rattle.claims.specs.SmfForms.{Unnamed}
 use Rattle.claims.proofs.Calls as calls
 use Rattle.claims.proofs.SmfForms.{unnamed-form}
@@ -219,11 +222,29 @@ left-behind : Left
 left-behind =
     record { read-step = λ κs a z e told. lent (now (a .0)) (a .1 .0) (a .1 .1 .0) (a .1 .1 .1 .0) (z .read) (z .running) told; lent = lent }
 
+-- an answer to what cannot be compared
+said-number : (n : ℕ) (Rule : Type 0) (z : Sameness) → Says z (refuses n) Rule → answered z ≡ n
+said-number n Rule (sameness.Told told) s = absurd s
+said-number n Rule (sameness.Refused m) s = s
+
+module _ (a : List ℕ) (m : ℕ) (b : List ℕ) (n : ℕ) where
+  sheets-refused : (Rule : Type 0) (z : Sameness) → Says z (listsAsked 128 a m b n) Rule → SheetsRefused a m b n (answered z)
+  unfolding listsAsked
+  sheets-refused Rule z told =
+      record {
+        first-many = λ h. said-number 21 Rule z (rw (lt-leb m 128 h) at told);
+        second-many = λ h. by-test (leb m 128) (λ t. said-number 21 Rule z (rw (t, lt-leb n 128 h) at told)) (λ t. said-number 21 Rule z (rw t at told));
+        first-row = λ l h none. said-number 18 Rule z (rw (le-leb m 128 l, le-leb n 128 h, none) at told);
+        second-row = λ l h none. by-test (areRows m a) (λ t. said-number 18 Rule z (rw (le-leb m 128 l, le-leb n 128 h, t, none) at told))
+            (λ t. said-number 18 Rule z (rw (le-leb m 128 l, le-leb n 128 h, t) at told));
+      }
+
 handed : Given
 handed =
     record {
       flags = λ κs a z e told.
           ((λ n h. ap (λ (r : Rules). r .strict) told ∙ even (a .0) n h), (λ n h. ap (λ (r : Rules). r .strict) told ∙ odd (a .0) n h));
+      sheets = λ κs a z e told. sheets-refused (now (a .0)) (a .1 .0) (now (a .1 .1 .1 .0)) (a .1 .1 .1 .1 .0) _ z told;
       row-short = λ κs a z e told h. told ∙ row-past (now (a .0)) (a .1 .0) h;
     }
 

@@ -11,13 +11,14 @@ use Rattle.smf.specs.Write.{over}
 use Rattle.smf.specs.Event.{Event}
 use Rattle.smf.specs.Lists.{readList, encodeList, ListWritten, wrote, writeList}
 use Rattle.smf.proofs.Write.{length-over}
-use Rattle.smf.proofs.Legal.{all-strictly}
+use Rattle.smf.proofs.Legal.{AllLegal, all-strictly}
 use Rattle.smf.proofs.Lists.{ReadsBack, list-reads-back, list-read, list-valid}
 use Rattle.smf.proofs.ListLegality.{given-length, Lawful, lawful-all, lawful-take, records-lawful}
 use Rattle.smf.proofs.ListWrites.{write-wrote, write-refused, write-fits, front-own, front-beyond}
 use Rattle.rows.specs.Rows.{width}
 use Rattle.rows.specs.RowLists.{rowsJudged}
 use Rattle.write.proofs.Judging.{row-lawful}
+use Rattle.claims.proofs.Bytes.{list-bytes}
 use Rattle.claims.specs.Point3.{ReadsStrictly, Fits, Accepted, ListWriteSays, Writes}
 
 -- rows that are given are legal events
@@ -37,12 +38,14 @@ module _ (rules : Rules) (most running : ℕ) where
   valid es s r = list-valid (strictOf rules) most running s (r .all)
 
   module _ (judged : List (Answer (Event (List ℕ)))) (lawful : Lawful rules judged) (count : ℕ) where
+    laws : (es : List (Event (List ℕ))) → take count judged ≡ map gives es → AllLegal rules es
+    laws es legal = lawful-all rules es (rw (← legal) (lawful-take rules count judged lawful))
+
     back : (es : List (Event (List ℕ))) → isRunning running ≡ true → count ≤ most → take count judged ≡ map gives es
         → ReadsBack (readList (strictOf rules) most running (encodeList running es)) running es
     back es is few legal =
         let few′ : length es ≤ most = omega (arith, given-length es, ap length legal, length-take count judged) in
-        let laws : Lawful rules (map gives es) = rw (← legal) (lawful-take rules count judged lawful) in
-        list-reads-back (strictOf rules) most running es is (all-strictly rules es (lawful-all rules es laws)) few′
+        list-reads-back (strictOf rules) most running es is (all-strictly rules es (laws es legal)) few′
 
     module _ (buffer : List ℕ) where
       abbrev written : ListWritten
@@ -78,7 +81,7 @@ module _ (rules : Rules) (most running : ℕ) where
       some-fit n e =
           let a = write-wrote most running judged count buffer n e in
           let b = back (a .events) (a .valid) (a .few) (a .legal) in
-          (a .few, (a .events, a .legal, (encodeList running (a .events), omega (arith, a .size, a .room), record { events = b .events; all = b .stop })))
+          (a .few, (a .events, a .legal, (encodeList running (a .events), omega (arith, a .size, a .room), record { events = b .events; all = b .stop }, list-bytes rules running (a .events) (laws (a .events) (a .legal)))))
 
       -- whatever the list's events were made of
       pub list-write-says : ListWriteSays rules most running judged count buffer written

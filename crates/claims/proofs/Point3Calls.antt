@@ -10,7 +10,7 @@ use denote.Struct.Laws as struct
 use borrow.Fn.Kinds.{Dens, GoodsP}
 use lib.ListN.{length, take, replicate, length-map}
 use lib.Seq.{take-append-seam, length-take-le}
-use Rattle.smf.specs.Answer.{Rules, strictOf, gives}
+use Rattle.smf.specs.Answer.{Answer, Rules, strictOf, gives}
 use Rattle.smf.specs.Running.{isRunning}
 use Rattle.smf.specs.Place.{Span, bytesOf}
 use Rattle.smf.specs.Write.{over}
@@ -18,9 +18,7 @@ use Rattle.smf.specs.Event.{Event, mapEvent, Same, legal, encodeEvent, EventWri
 use Rattle.smf.specs.Lists.{recordsJudged, listed, ListAt, listAt, filler, holding, heldAs, ListHeld, wrote, ListWritten, writeList, counted}
 use Rattle.smf.proofs.Event as smf
 use Rattle.smf.proofs.Legal.{isLegal, legal-strictly}
-use Rattle.smf.proofs.Lists.{list-ended}
-use Rattle.smf.proofs.ListLegality.{given-itself, records-themselves}
-use Rattle.smf.proofs.ListPlaces.{list-reached}
+use Rattle.smf.proofs.ListLegality.{given-itself, records-lawful, records-themselves}
 use Rattle.smf.proofs.ListWrites.{write-wrote, front-own}
 use Rattle.base.specs.Rules.{rulesOf}
 use Rattle.base.specs.declared.Rules as base
@@ -36,66 +34,56 @@ use Rattle.track.specs.declared.list.EventList.{EventList}
 use Rattle.rows.specs.RowLists.{rowsJudged}
 use Rattle.write.specs.Wrote.{wroteEvent}
 use Rattle.write.specs.ListAnswers.{wroteList}
+use Rattle.write.specs.declared.answer.WroteList.{WroteList}
 use Rattle.write.specs.declared.answer.WroteEvent.{WroteEvent}
 use Rattle.write.specs.declared.answer.WroteEvent.the-variants as event
-use Rattle.claims.specs.Point3.{Accepted, ListWriteSays, ReadBack, ReadAgain, NeverBegins, Point3}
+use Rattle.claims.specs.Point3.{Bytes, TypeBytes, FitsAsBytes, ListWriteSays, ReadBack, ReadAgain, NeverBegins, Point3}
 use Rattle.claims.specs.Calls.{EventListRead, WriteEvent}
 use Rattle.claims.proofs.Calls as calls
 use Rattle.claims.proofs.Point3.{rows-lawful, list-write-says, writes}
 use Rattle.claims.proofs.Refusals.{legal-by}
+use Rattle.claims.proofs.Carried.{records-carry, rows-carry, fits-as-bytes}
 use Rattle.claims.proofs.EventWrites.{event-wrote}
+use Rattle.claims.proofs.ReadAgain as read-again
+use Rattle.claims.proofs.ReadAgain.{left, own, read, Again}
 
 -- what the answer's meaning says of the buffer at the end
 pub event-end : (r : WroteEvent) (end : List ℕ) → wroteEvent r end .written .buffer ≡ end
 event-end (event.Next p) end = refl
 event-end (event.Refused n) end = refl
 
--- a list that was written, read again
+-- a list of records that was written, read again
 module _ (rules : Rules) (running : ℕ) (bytes : List ℕ) (records : List (Event Span)) (count : ℕ) (out : List ℕ) (n : ℕ)
     (e : writeList capacity running (recordsJudged rules bytes records) count out .answer ≡ wrote n) where
-  abbrev w : ListWritten
-  w = writeList capacity running (recordsJudged rules bytes records) count out
+  abbrev judged : List (Answer (Event (List ℕ)))
+  judged = recordsJudged rules bytes records
 
   abbrev raw : List ℕ
-  raw = take n (w .buffer)
+  raw = own rules capacity running judged count out n
 
-  abbrev read : ListAt
-  read = listAt (strictOf rules) capacity running raw 0
+  abbrev there : ListAt
+  there = read rules capacity running judged count out n
 
-  abbrev itself : Event Span → Event (List ℕ)
-  itself = mapEvent (bytesOf raw)
-
-  accepted : Accepted rules capacity running (recordsJudged rules bytes records) count out w n
-  accepted = writes rules capacity running bytes records count out .accepted n e
-
-  size : length raw ≡ n
-  size = length-take-le n (w .buffer) (omega (arith, accepted .long, write-wrote capacity running (recordsJudged rules bytes records) count out n e .room))
+  back-again : Again rules capacity running judged count out n
+  back-again = read-again.again rules capacity running judged count out n (records-lawful rules bytes records) e
 
   -- the events of the records that were read are those that were written
-  events : map itself (read .events) ≡ listed bytes records count
-  events = list-reached (strictOf rules) capacity running raw 0 .events ∙ accepted .reads .events ∙ records-themselves rules bytes count records (accepted .events) (accepted .legal)
+  events : map (mapEvent (bytesOf raw)) (there .events) ≡ listed bytes records count
+  events = back-again .there ∙ records-themselves rules bytes count records (back-again .events) (back-again .legal)
 
-  as-many : length records ≡ capacity → length (read .events) ≡ count
+  as-many : length records ≡ capacity → length (there .events) ≡ count
   as-many full =
-      let few = write-wrote capacity running (recordsJudged rules bytes records) count out n e .few in
-      let a : length (read .events) ≡ length (listed bytes records count) = sym (length-map (read .events) itself) ∙ ap length events in
+      let few = write-wrote capacity running judged count out n e .few in
+      let a : length (there .events) ≡ length (listed bytes records count) = sym (length-map (there .events) (mapEvent (bytesOf raw))) ∙ ap length events in
       let b : length (listed bytes records count) ≡ length (take count records) = length-map (take count records) (mapEvent (bytesOf bytes)) in
       a ∙ b ∙ length-take-le count records (omega (arith, few))
 
-  same : length records ≡ capacity → counted raw (holding capacity (read .events) .records) (holding capacity (read .events) .count) ≡ counted bytes records count
+  same : length records ≡ capacity → counted raw (holding capacity (there .events) .records) (holding capacity (there .events) .count) ≡ counted bytes records count
   unfolding holding
-  same full = rw (take-append-seam (read .events) (replicate (capacity - length (read .events)) filler), events, as-many full)
+  same full = rw (take-append-seam (there .events) (replicate (capacity - length (there .events)) filler), events, as-many full)
 
-  read-back : length records ≡ capacity → ReadBack raw (heldAs capacity read) n (w .running) bytes records count
-  unfolding listAt
-  read-back full =
-      let end = list-ended (strictOf rules) capacity running raw (accepted .reads .all) in
-      record {
-        stop = accepted .reads .all;
-        place = omega (arith, size, ap length end);
-        status = accepted .after;
-        same = same full;
-      }
+  read-back : length records ≡ capacity → ReadBack raw (heldAs capacity there) n (left rules capacity running judged count out n .running) bytes records count
+  read-back full = record { stop = back-again .stop; place = back-again .place; status = back-again .status; same = same full }
 
 -- two events that were written at the front of their buffers
 module _ (running : ℕ) (rules rules′ : Rules) (bytes bytes′ : List ℕ) (e e′ : Event Span) (out out′ : List ℕ) (n n′ : ℕ)
@@ -159,6 +147,25 @@ never e running rules bytes out at r end told n z h =
     (wroteEvent r end) (wroteEvent r′ end′) (ap (λ (x : Running). x .status) same) alike told z h told′ z′ h′ more
     (rw (event-end r end, event-end r′ end′) q))
 
+records-fit : (list : EventList) (running : Running) (rules : base.Rules) (bytes out : List ℕ) (r : WroteList) (end : List ℕ)
+    → wroteList r end ≡ writeList capacity (running .status) (recordsJudged (rulesOf rules) bytes (map recordOf (list .records))) (list .count) out
+    → (n : ℕ) → wroteList r end .answer ≡ wrote n → Bytes bytes → TypeBytes (map recordOf (list .records))
+    → FitsAsBytes (rulesOf rules) capacity (running .status) (recordsJudged (rulesOf rules) bytes (map recordOf (list .records))) (list .count) out
+records-fit list running rules bytes out r end told n h payload types =
+    let records = map recordOf (list .records) in
+    fits-as-bytes bytes payload (rulesOf rules) capacity (running .status) (recordsJudged (rulesOf rules) bytes records) (list .count) out (records-carry bytes payload (rulesOf rules) records types)
+    (writes (rulesOf rules) capacity (running .status) bytes records (list .count) out .accepts .0 (n, sym (ap (λ (w : ListWritten). w .answer) told) ∙ h))
+
+rows-fit : (rows : List ℕ) (count : ℕ) (running : Running) (rules : base.Rules) (bytes out : List ℕ) (r : WroteList) (end : List ℕ)
+    → wroteList r end ≡ writeList capacity (running .status) (rowsJudged (rulesOf rules) bytes count rows) count out
+    → (n : ℕ) → wroteList r end .answer ≡ wrote n → Bytes bytes
+    → FitsAsBytes (rulesOf rules) capacity (running .status) (rowsJudged (rulesOf rules) bytes count rows) count out
+rows-fit rows count running rules bytes out r end told n h payload =
+    let judged = rowsJudged (rulesOf rules) bytes count rows in
+    fits-as-bytes bytes payload (rulesOf rules) capacity (running .status) judged count out (rows-carry bytes payload (rulesOf rules) count rows)
+    (list-write-says (rulesOf rules) capacity (running .status) judged (rows-lawful (rulesOf rules) bytes count rows) count out .accepts .0
+    (n, sym (ap (λ (w : ListWritten). w .answer) told) ∙ h))
+
 pub point-3 : Point3
 point-3 =
     record {
@@ -168,6 +175,8 @@ point-3 =
       writes-rows = calls.write-rows _ (λ rows count running rules bytes out r end told.
           subst (ListWriteSays (rulesOf rules) capacity (running .status) (rowsJudged (rulesOf rules) bytes count rows) count out) (sym told)
           (list-write-says (rulesOf rules) capacity (running .status) (rowsJudged (rulesOf rules) bytes count rows) (rows-lawful (rulesOf rules) bytes count rows) count out));
+      bytes = calls.write-list _ records-fit;
+      bytes-rows = calls.write-rows _ rows-fit;
       reads-back = λ κs a r e told good n h.
           again (a .0) (a .1 .0) (a .1 .1 .0) (now (a .1 .1 .1 .0)) (now (a .1 .1 .1 .1 .0)) (wroteList r (now (e .1 .1 .1 .1 .0))) told n h (full-list κs a good);
       prefix-free = calls.write-event _ never;

@@ -54,7 +54,7 @@ shortest =
           → (a : EventAt) → rules .strict ≡ true → eventRead r ≡ readsAt a → Written (running .status) raw a (λ from n. n ≤ from + a .used)
       said raw at running rules r told a strict e =
           let few = used (rulesOf rules) (running .status) raw at a strict (sym told ∙ e) in
-          written (running .status) raw a _ (λ from. omega (arith, few))
+          written (running .status) raw a (λ from n. n ≤ from + a .used) (λ from. omega (arith, few))
 
 -- P7's bytes
 abbrev p7 : List ℕ
@@ -81,5 +81,5 @@ not-lenient =
         empty,
         told ∙ rw (q, z, none, lenient) p7-read,
         refl,
-        subst (λ (s : List ℕ). Written 0 s empty (λ from n. n ≡ from + 3)) (sym q) (written 0 p7 empty _ (λ from. rw p7-length)),
+        subst (λ (s : List ℕ). Written 0 s empty (λ from n. n ≡ from + 3)) (sym q) (written 0 p7 empty (λ from n. n ≡ from + 3) (λ from. rw p7-length)),
       )

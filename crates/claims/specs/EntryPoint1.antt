@@ -18,7 +18,7 @@ use Rattle.loader.proofs as loader
 use Rattle.loader_track.proofs as loader_track
 use Rattle.claims.specs.Calls.{Always, Lent}
 use Rattle.claims.specs.EntryCalls.{numberRead, numberWrite, payloadRead, payloadWrite, formatRead, formatEncode, timingRead, timingEncode, fpsAsCode, fpsFromInt, fpsAsF32, smpteNew, smpteRead, smpteEncode, smpteSecondF32, smptePosition, bendAsInt, bendAsF32, bendAsF64, eventRead, eventLength, eventWrite, listRead, listLength, listWrite, eventSame, listSame}
-use Rattle.claims.specs.EntrySays.{Kept, Outcome, Answers, said, saidList, eventLeft, sizeLeft, listLeft}
+use Rattle.claims.specs.EntrySays.{Kept, Outcome, AnswersBy, said, saidList, eventLeft, sizeLeft, listLeft}
 use Rattle.claims.specs.Table.{among, OneOf, ofNumber, ofPayload, ofEvent, ofLength, ofWriting, ofListLength, ofListWriting}
 use Rattle.claims.specs.Stands.{statusLeft, ListStands}
 use Rattle.claims.specs.Leaves.{EventLeaves, SizeLeaves, ListLeaves}
@@ -26,44 +26,44 @@ use Rattle.claims.specs.Leaves.{EventLeaves, SizeLeaves, ListLeaves}
 -- numbers and payloads: 2, 3 and 11 only where reading is strict
 pub record NumberRefusals : Type 0 where
   pub number-read : Always loader.numbers.«apk_number_read».Reads.Learnt (numberRead (λ bytes at bits value next r.
-      Answers (ofNumber (fromBits bits .strict)) r (Kept value × Kept next)))
+      AnswersBy (ofNumber (fromBits bits .strict)) r (Kept value × Kept next)))
   pub number-write : Always loader.numbers.«apk_number_write».Reads.Learnt (numberWrite (λ value out at next r.
-      Answers (18 ∷ 20 ∷ []) r (Kept out × Kept next)))
+      AnswersBy (18 ∷ 20 ∷ []) r (Kept out × Kept next)))
   pub payload-read : Always loader.numbers.«apk_payload_read».Reads.Learnt (payloadRead (λ bytes at bits start long r.
-      Answers (ofPayload (fromBits bits .strict)) r (Kept start × Kept long)))
+      AnswersBy (ofPayload (fromBits bits .strict)) r (Kept start × Kept long)))
   pub payload-write : Always loader.numbers.«apk_payload_write».Reads.Learnt (payloadWrite (λ payload start long out at next r.
-      Answers (19 ∷ 20 ∷ 22 ∷ []) r (Kept out × Kept next)))
+      AnswersBy (19 ∷ 20 ∷ 22 ∷ []) r (Kept out × Kept next)))
 
 -- header fields: 17 under two bytes, 15 a format above 2, 16 no such rate, 18 ticks above their width
 pub record FieldRefusals : Type 0 where
-  pub format-read : Always loader.fields.«apk_format_read».Reads.Learnt (formatRead (λ bytes format r. Answers (15 ∷ 17 ∷ []) r (Kept format)))
-  pub format-encode : Always loader.fields.«apk_format_encode».Reads.Learnt (formatEncode (λ format bytes r. Answers (15 ∷ []) r (Kept bytes)))
+  pub format-read : Always loader.fields.«apk_format_read».Reads.Learnt (formatRead (λ bytes format r. AnswersBy (15 ∷ 17 ∷ []) r (Kept format)))
+  pub format-encode : Always loader.fields.«apk_format_encode».Reads.Learnt (formatEncode (λ format bytes r. AnswersBy (15 ∷ []) r (Kept bytes)))
   pub timing-read : Always loader.fields.«apk_timing_read».Reads.Learnt (timingRead (λ bytes ticks rate subframe r.
-      Answers (16 ∷ 17 ∷ []) r (Kept ticks × Kept rate × Kept subframe)))
+      AnswersBy (16 ∷ 17 ∷ []) r (Kept ticks × Kept rate × Kept subframe)))
   pub timing-encode : Always loader.fields.«apk_timing_encode».Reads.Learnt (timingEncode (λ ticks rate subframe bytes r.
-      Answers (16 ∷ 18 ∷ []) r (Kept bytes)))
+      AnswersBy (16 ∷ 18 ∷ []) r (Kept bytes)))
 
 -- rates and SMPTE times: 16 no such rate, 13 outside the ranges, 18 where it is written
 pub record TimeRefusals : Type 0 where
-  pub fps-as-code : Always loader.smpte.«apk_fps_as_code».Reads.Learnt (fpsAsCode (λ rate code r. Answers (16 ∷ []) r (Kept code)))
-  pub fps-from-int : Always loader.smpte.«apk_fps_from_int».Reads.Learnt (fpsFromInt (λ raw rate r. Answers (16 ∷ []) r (Kept rate)))
-  pub fps-as-f32 : Always loader.smpte.«apk_fps_as_f32».Reads.Learnt (fpsAsF32 (λ rate frames r. Answers (16 ∷ []) r (Kept frames)))
+  pub fps-as-code : Always loader.smpte.«apk_fps_as_code».Reads.Learnt (fpsAsCode (λ rate code r. AnswersBy (16 ∷ []) r (Kept code)))
+  pub fps-from-int : Always loader.smpte.«apk_fps_from_int».Reads.Learnt (fpsFromInt (λ raw rate r. AnswersBy (16 ∷ []) r (Kept rate)))
+  pub fps-as-f32 : Always loader.smpte.«apk_fps_as_f32».Reads.Learnt (fpsAsF32 (λ rate frames r. AnswersBy (16 ∷ []) r (Kept frames)))
   pub smpte-new : Always loader.smpte.«apk_smpte_new».Reads.Learnt (smpteNew (λ hour minute second frame subframe rate bits r.
-      Answers (13 ∷ 16 ∷ []) r (Unit {0})))
+      AnswersBy (13 ∷ 16 ∷ []) r (Unit {0})))
   pub smpte-read : Always loader.smpte.«apk_smpte_read».Reads.Learnt (smpteRead (λ first minute second frame subframe bits time r.
-      Answers (13 ∷ []) r (Kept time)))
+      AnswersBy (13 ∷ []) r (Kept time)))
   pub smpte-encode : Always loader.smpte.«apk_smpte_encode».Reads.Learnt (smpteEncode (λ hour minute second frame subframe rate bits bytes r.
-      Answers (16 ∷ 18 ∷ []) r (Kept bytes)))
+      AnswersBy (16 ∷ 18 ∷ []) r (Kept bytes)))
   pub smpte-second-f32 : Always loader.smpte.«apk_smpte_second_f32».Reads.Learnt (smpteSecondF32 (λ hour minute second frame subframe rate bits seconds r.
-      Answers (13 ∷ 16 ∷ []) r (Kept seconds)))
+      AnswersBy (13 ∷ 16 ∷ []) r (Kept seconds)))
   pub smpte-position : Always loader.smpte.«apk_smpte_position».Reads.Learnt (smptePosition (λ hour minute second frame subframe rate bits subframes r.
-      Answers (13 ∷ 16 ∷ []) r (Kept subframes)))
+      AnswersBy (13 ∷ 16 ∷ []) r (Kept subframes)))
 
 -- bends: 18 above the width
 pub record BendRefusals : Type 0 where
-  pub bend-as-int : Always loader.bends.«apk_bend_as_int».Reads.Learnt (bendAsInt (λ raw int r. Answers (18 ∷ []) r (Kept int)))
-  pub bend-as-f32 : Always loader.bends.«apk_bend_as_f32».Reads.Learnt (bendAsF32 (λ raw float r. Answers (18 ∷ []) r (Kept float)))
-  pub bend-as-f64 : Always loader.bends.«apk_bend_as_f64».Reads.Learnt (bendAsF64 (λ raw float r. Answers (18 ∷ []) r (Kept float)))
+  pub bend-as-int : Always loader.bends.«apk_bend_as_int».Reads.Learnt (bendAsInt (λ raw int r. AnswersBy (18 ∷ []) r (Kept int)))
+  pub bend-as-f32 : Always loader.bends.«apk_bend_as_f32».Reads.Learnt (bendAsF32 (λ raw float r. AnswersBy (18 ∷ []) r (Kept float)))
+  pub bend-as-f64 : Always loader.bends.«apk_bend_as_f64».Reads.Learnt (bendAsF64 (λ raw float r. AnswersBy (18 ∷ []) r (Kept float)))
 
 -- a list that was handed out: its rows in the cells from the first on and no other cell changed, how many they are, where reading stopped and why
 pub record HandedOut (l : ListAt) (rows : Lent (List ℕ)) (count place after : Lent ℕ) (r : ℕ) : Type 0 where
@@ -93,9 +93,9 @@ pub record TrackRefusals : Type 0 where
   -- one row's event, measured and written: a refusal leaves every byte, the place and the running status as given; an acceptance changes no byte but
   -- its own
   pub event-length : Always loader_track.events.«apk_event_length».Reads.Learnt (eventLength (λ row payload running bits long after r.
-      Answers ofLength r (Kept long × Kept after)))
+      AnswersBy ofLength r (Kept long × Kept after)))
   pub event-write : Always loader_track.events.«apk_event_write».Reads.Learnt (eventWrite (λ row payload running bits out at next after r.
-      Answers ofWriting r (Kept next) × EventLeaves running at (out .before) (eventLeft out next after r) (said r (next .after))))
+      AnswersBy ofWriting r (Kept next) × EventLeaves running at (out .before) (eventLeft out next after r) (said r (next .after))))
   -- a list of rows, measured and written: a refusal gives its number and index, and leaves every byte, the length, and the running status as given
   pub list-length : Always loader_track.«list_write».«apk_list_length».Reads.Learnt (listLength (λ rows count payload running bits long after index r.
       Outcome ofListLength r (Kept index) (Kept long)
@@ -106,9 +106,9 @@ pub record TrackRefusals : Type 0 where
 
 -- sameness: 21 a count above what a list holds, 18 a row that is no event's
 pub record SameRefusals : Type 0 where
-  pub event-same : Always loader_track.sameness.«apk_event_same».Reads.Learnt (eventSame (λ rowA bytesA rowB bytesB same r. Answers (18 ∷ []) r (Kept same)))
+  pub event-same : Always loader_track.sameness.«apk_event_same».Reads.Learnt (eventSame (λ rowA bytesA rowB bytesB same r. AnswersBy (18 ∷ []) r (Kept same)))
   pub list-same : Always loader_track.sameness.«apk_list_same».Reads.Learnt (listSame (λ rowsA countA bytesA rowsB countB bytesB same r.
-      Answers (18 ∷ 21 ∷ []) r (Kept same)))
+      AnswersBy (18 ∷ 21 ∷ []) r (Kept same)))
 
 -- all of them
 pub record EntryPoint1 : Type 0 where

@@ -19,7 +19,7 @@ use Rattle.loader_track.proofs as loader_track
 use Rattle.claims.specs.Calls.{Always, Lent}
 use Rattle.claims.specs.EntryCalls.{eventWrite, listRead, listWrite}
 use Rattle.claims.specs.EntrySays.{listLeft}
-use Rattle.claims.specs.Point3.{ListWriteSays}
+use Rattle.claims.specs.Point3.{Bytes, FitsAsBytes, ListWriteSays}
 
 -- what `apk_list_read` handed out of so many bytes, to a running status: the rows of events that are the same, over the bytes that it read, as those
 -- of other rows over theirs
@@ -51,6 +51,9 @@ pub record EntryPoint3 : Type 0 where
   -- that list; what is written reads so and ends in the same running status, and no shorter bytes do
   pub list-write : Always loader_track.«list_write».«apk_list_write».Reads.Learnt (listWrite (λ rows count payload running bits out long after index r.
       ListWriteSays (fromBits bits) capacity running (rowsJudged (fromBits bits) payload count rows) count (out .before) (listLeft out long after index r)))
+  -- and what fits is a byte string, where the payload bytes are bytes
+  pub bytes : Always loader_track.«list_write».«apk_list_write».Reads.Learnt (listWrite (λ rows count payload running bits out long after index r.
+      r ≡ 0 → Bytes payload → FitsAsBytes (fromBits bits) capacity running (rowsJudged (fromBits bits) payload count rows) count (out .before)))
   -- what it writes, `apk_list_read` reads strictly as the same list, and ends in the same running status
   pub reads-back : Always loader_track.«list_write».«apk_list_write».Reads.Learnt (listWrite (λ rows count payload running bits out long after index r.
       r ≡ 0 → Always loader_track.«list_read».«apk_list_read».Reads.Learnt (listRead (RowsAgain rows count payload running out long after))))

@@ -18,8 +18,8 @@ Outcome ns zero Accepted Refused = Accepted
 Outcome ns (suc n) Accepted Refused = OneOf ns (suc n) × Refused
 
 -- one that refuses by these numbers, and leaves what is left then
-abbrev pub Answers : List ℕ → ℕ → Type 0 → Type 0
-Answers ns r Left = Outcome ns r (Unit {0}) Left
+abbrev pub AnswersBy : List ℕ → ℕ → Type 0 → Type 0
+AnswersBy ns r Left = Outcome ns r (Unit {0}) Left
 
 -- the answer, with the value that was found, as the definitions give it
 abbrev pub said : {A : Type 0} → ℕ → A → Answer A

@@ -15,6 +15,7 @@ use Rattle.smf.specs.Running.{isRunning}
 use Rattle.smf.specs.Kind.{meta, endOfTrack, unknown}
 use Rattle.smf.specs.Event.{Event, event, ReadAt, readsAt, refusedAt, eventAt, legal, encodeEvent}
 use Rattle.smf.specs.Lists.{recordsJudged, encodeList, ListAnswer, refusesAt}
+use Rattle.base.specs.Refusal.{numberOf}
 use Rattle.base.specs.Restricted.{triedU2, triedU4, triedU7, triedU14, triedU15, triedU24}
 use Rattle.base.specs.Rules.{rulesOf}
 use Rattle.base.specs.declared.Rules.{Rules}
@@ -35,18 +36,21 @@ use Rattle.track.specs.List.{recordOf, heldOf}
 use Rattle.track.specs.Read.{listRead}
 use Rattle.track.proofs as track
 use Rattle.rows.specs.RowAnswer.{rowAnswer}
-use Rattle.rows.specs.RowLists.{rowsJudged}
+use Rattle.rows.specs.RowLists.{areRows, rowsJudged}
 use Rattle.rows.proofs as rows
 use Rattle.write.specs.Wrote.{wroteEvent}
 use Rattle.write.specs.ListAnswers.{wroteList}
+use Rattle.same.proofs as same
 use Rattle.loader.proofs as loader
-use Rattle.claims.specs.Calls.{Always, first, second, third, fourth, WriteVarlenSlice, EventListRead, WriteEvent, WriteList, WriteRows}
+use Rattle.same.specs.declared.of_rows.Sameness.{Sameness}
+use Rattle.same.specs.declared.of_rows.Sameness.the-variants as sameness
+use Rattle.claims.specs.Calls.{Always, WriteVarlenSlice, EventListRead, WriteEvent, WriteList, WriteRows}
 use Rattle.claims.specs.Table.{among}
 use Rattle.claims.specs.Stands.{statusLeft}
 use Rattle.claims.specs.SmfForms.{Unnamed}
 
 -- whatever its promise permits, a function answers this
-abbrev pub Answers : {L : Type 0} {A R E : L → Type 0} → ((κs : L) → A κs → R κs → E κs → Type 0) → {B : Type 0} → ((κs : L) → R κs → B) → ((κs : L) → A κs → B) → Type 0
+abbrev pub Answers : {L : Type 0} {A R E : L → Type 0} → ((κs : L) → A κs → R κs → E κs → Type 0) → {X : Type 0} → ((κs : L) → R κs → X) → ((κs : L) → A κs → X) → Type 0
 Answers Told says is = Always Told (λ κs a z e. says κs z ≡ is κs a)
 
 -- a number up to the largest is taken as it is, and one above it refused by 18
@@ -120,9 +124,21 @@ pub record Records : Type 0 where
 pub record Left : Type 0 where
   -- where the running status is handed back, and where it is lent: `read_event` promises `Leaves`
   pub read-step : Always events.running.«read_step».Reads.Learnt (λ κs a z e.
-      LeftBehind (fourth a) (now (first a)) (second a) (third a) (eventRead (z .read)) (z .running .status))
+      LeftBehind (a .1 .1 .1 .0) (now (a .0)) (a .1 .0) (a .1 .1 .0) (eventRead (z .read)) (z .running .status))
   pub lent : (raw : List ℕ) (at : ℕ) (running : Running) (rules : Rules) (r : ReadEvent) (left : Running)
       → Leaves (eventAt (rulesOf rules) (running .status) raw at) r left → LeftBehind rules raw at running (eventRead r) (left .status)
+
+-- the number of a refusal to compare, and 0 where sameness is told
+abbrev pub answered : Sameness → ℕ
+answered (sameness.Told told) = 0
+answered (sameness.Refused n) = numberOf n
+
+-- two sheets and their counts, and the number of a refusal
+pub record SheetsRefused (a : List ℕ) (m : ℕ) (b : List ℕ) (n number : ℕ) : Type 0 where
+  pub first-many : 128 < m → number ≡ 21
+  pub second-many : 128 < n → number ≡ 21
+  pub first-row : m ≤ 128 → n ≤ 128 → areRows m a ≡ false → number ≡ 18
+  pub second-row : m ≤ 128 → n ≤ 128 → areRows n b ≡ false → number ≡ 18
 
 -- what a caller hands over
 pub record Given : Type 0 where
@@ -131,7 +147,10 @@ pub record Given : Type 0 where
       ((n : ℕ) → a .0 ≡ 2 * n → z .strict ≡ false) × ((n : ℕ) → a .0 ≡ 2 * n + 1 → z .strict ≡ true))
   -- a row of ten cells that is not all there is no event's: 18
   pub row-short : Always rows.back.«row_event_at».Reads.Learnt (λ κs a z e.
-      length (now (first a)) < second a + 10 → rowAnswer z ≡ refuses 18)
+      length (now (a .0)) < a .1 .0 + 10 → rowAnswer z ≡ refuses 18)
+  -- two sheets compared: 21 where either count is above 128, and then 18 where a row of either is no event's
+  pub sheets : Always same.«of_rows».«same_row_lists».Reads.Learnt (λ κs a z e.
+      SheetsRefused (now (a .0)) (a .1 .0) (now (a .1 .1 .1 .0)) (a .1 .1 .1 .1 .0) (answered z))
 
 -- document 01: writing checks 1, then what forbids the event, 18, 19, 22, 23 in that order, then 20. An `Unknown` can be refused by each of them
 pub record EventOrder (running : ℕ) (judged : Answer (Event (List ℕ))) (bytes : List ℕ) (e : Event Span) (out : List ℕ) (at : ℕ) (answer : Answer ℕ) : Type 0 where

@@ -1,5 +1,5 @@
 -- Point 1: whatever is read or written, the answer is an acceptance, or a refusal by a number of document 01's table; a refused write alters
--- no byte of the output. That every input gets an answer and every call ends is proved of each function: none has a `requires`.
+-- no byte of the output. That every call ends is proved of each function; that every input gets an answer says `EveryInput.antt`.
 use mathlib.Core.Path.{_≡_}
 use mathlib.Core.Bool.{true}
 use mathlib.Core.List.{List, [], _∷_, map}

@@ -1,14 +1,15 @@
 -- Point 3, of every list and buffer: a list is written exactly when it is legal and some bytes that fit read strictly as it; what is written
 -- reads so, no bytes that do are fewer, and no other byte changes. No event's bytes begin with those of a different one.
 use mathlib.Core.Path.{_≡_}
-use mathlib.Core.List.{List, _++_, map}
+use mathlib.Core.List.{List, [], _∷_, _++_, map}
 use mathlib.Core.Logic.{_↔_}
-use Prim.Native.Nat.{ℕ, _≤_}
+use Prim.Native.Nat.{ℕ, _≤_, _<_}
+use denote.Ref.{now}
 use borrow.Fn.Kinds.{GoodsP}
 use lib.ListN.{length, take, drop}
 use Rattle.smf.specs.Answer.{Answer, gives, Rules, strictOf}
 use Rattle.smf.specs.Place.{Span}
-use Rattle.smf.specs.Event.{Event, Same}
+use Rattle.smf.specs.Event.{Event, Carried, nothing, owned, untold, carries, Same}
 use Rattle.smf.specs.Lists.{readList, ReadsAs, recordsJudged, ended, ListHeld, wrote, refusesAt, ListWritten, writeList, SameList}
 use Rattle.base.specs.Rules.{rulesOf}
 use Rattle.base.specs.declared.Rules as base
@@ -25,8 +26,32 @@ use Rattle.write.specs.ListAnswers.{wroteList}
 use Rattle.write.specs.declared.answer.WroteEvent.{WroteEvent}
 use Rattle.write.specs.declared.answer.WroteList.{WroteList}
 use Rattle.write.proofs.records.write_list as write-list
-use Rattle.claims.specs.Calls as shown
 use Rattle.claims.specs.Calls.{Always, EventListRead, WriteEvent, WriteList, WriteRows}
+
+-- numbers that are bytes
+abbrev pub Bytes : List ℕ → Type 0
+Bytes [] = Unit {0}
+Bytes (b ∷ s) = (b < 256) × Bytes s
+
+-- what events carry is bytes: a payload, and the type of an `Unknown`
+abbrev pub BytesCarried : Carried (List ℕ) → Type 0
+BytesCarried nothing = Unit {0}
+BytesCarried (owned p) = Bytes p
+BytesCarried (untold t p) = (t < 256) × Bytes p
+
+abbrev pub CarryBytes : List (Event (List ℕ)) → Type 0
+CarryBytes [] = Unit {0}
+CarryBytes (e ∷ es) = BytesCarried (carries (e .kind)) × CarryBytes es
+
+-- the types of the `Unknown` messages of records are bytes, as the code's are
+abbrev pub TypeByte : Carried Span → Type 0
+TypeByte nothing = Unit {0}
+TypeByte (owned p) = Unit {0}
+TypeByte (untold t p) = t < 256
+
+abbrev pub TypeBytes : List (Event Span) → Type 0
+TypeBytes [] = Unit {0}
+TypeBytes (e ∷ es) = TypeByte (carries (e .kind)) × TypeBytes es
 
 module _ (rules : Rules) (most running : ℕ) where
   -- document 01: bytes that read strictly as these events
@@ -34,9 +59,16 @@ module _ (rules : Rules) (most running : ℕ) where
   ReadsStrictly es s = ReadsAs (strictOf rules) most running s es
 
   module _ (judged : List (Answer (Event (List ℕ)))) (count : ℕ) (buffer : List ℕ) where
-    -- no more events than may be, each legal, and some bytes that fit the buffer and read strictly as them
+    -- no more events than may be, each legal, and some bytes that fit the buffer and read strictly as them: bytes, where what the events carry is
     abbrev pub Fits : Type 0
-    Fits = (count ≤ most) × ((es : List (Event (List ℕ))) × (take count judged ≡ map gives es) × ((s : List ℕ) × (length s ≤ length buffer) × ReadsStrictly es s))
+    Fits =
+        (count ≤ most) × ((es : List (Event (List ℕ))) × (take count judged ≡ map gives es)
+        × ((s : List ℕ) × (length s ≤ length buffer) × ReadsStrictly es s × (CarryBytes es → Bytes s)))
+
+    -- the same of a byte string, every element of it below 256
+    abbrev pub FitsAsBytes : Type 0
+    FitsAsBytes =
+        (es : List (Event (List ℕ))) × (take count judged ≡ map gives es) × ((s : List ℕ) × (length s ≤ length buffer) × ReadsStrictly es s × Bytes s)
 
     -- document 01: an accepted write gives its length and the running status after it, and writes no byte beyond
     pub record Accepted (w : ListWritten) (n : ℕ) : Type 0 where
@@ -78,7 +110,8 @@ pub record ReadBack (raw : List ℕ) (r : ListHeld) (n after : ℕ) (bytes : Lis
 abbrev pub WriteOwnedList : (EventList → Running → base.Rules → List ℕ → List ℕ → WroteList → List ℕ → Type 0) → Type 0
 WriteOwnedList Claim =
     Always write-list.Reads.Learnt
-    (λ κs a r e. GoodsP κs write-list.Kinds.ps a → shown.writeList Claim κs a r e)
+    (λ κs a r e. GoodsP κs write-list.Kinds.ps a
+    → Claim (a .0) (a .1 .0) (a .1 .1 .0) (now (a .1 .1 .1 .0)) (now (a .1 .1 .1 .1 .0)) r (now (e .1 .1 .1 .1 .0)))
 
 -- a list that `write_list` wrote: what `EventList::read` reads of its bytes, by the same rules, strictly, and from the same running status
 module _ (list : EventList) (running : Running) (rules : base.Rules) (bytes : List ℕ) (w : ListWritten) (n : ℕ) where
@@ -101,6 +134,11 @@ pub record Point3 : Type 0 where
   -- `write_rows` in the same way, of its rows as they are judged
   pub writes-rows : WriteRows (λ rows count running rules bytes out r end.
       ListWriteSays (rulesOf rules) capacity (running .status) (rowsJudged (rulesOf rules) bytes count rows) count out (wroteList r end))
+  -- and what fits is a byte string, where the payload bytes are bytes, and the types of records
+  pub bytes : WriteList (λ list running rules bytes out r end. (n : ℕ) → wroteList r end .answer ≡ wrote n → Bytes bytes → TypeBytes (map recordOf (list .records))
+      → FitsAsBytes (rulesOf rules) capacity (running .status) (recordsJudged (rulesOf rules) bytes (map recordOf (list .records))) (list .count) out)
+  pub bytes-rows : WriteRows (λ rows count running rules bytes out r end. (n : ℕ) → wroteList r end .answer ≡ wrote n → Bytes bytes
+      → FitsAsBytes (rulesOf rules) capacity (running .status) (rowsJudged (rulesOf rules) bytes count rows) count out)
   -- what `write_list` writes, `EventList::read` reads strictly as the same list, all bytes used, and ends in the same running status
   pub reads-back : WriteOwnedList (λ list running rules bytes out r end.
       (n : ℕ) → wroteList r end .answer ≡ wrote n → EventListRead (ReadAgain list running rules bytes (wroteList r end) n))
