@@ -15,6 +15,7 @@ pub mod Point2
 pub mod Bytes
 pub mod Carried
 pub mod Point3
+pub mod Owned
 pub mod Point3Calls
 pub mod All
 pub mod Entries
