@@ -11,14 +11,24 @@ use Rattle.smf.specs.Answer.{Answer, gives, refuses, Rules}
 use Rattle.smf.specs.Place.{Span, bytesOf}
 use Rattle.smf.specs.Kind as kind
 use Rattle.smf.specs.Kind.{Meta, Kind}
-use Rattle.smf.specs.Event.{Event, mapMeta, mapKind, mapEvent, carries, metaCarries, legal}
+use Rattle.smf.specs.Event.{Event, mapMeta, mapKind, mapEvent, Carried, nothing, owned, untold, carries, metaCarries, legal}
 use Rattle.smf.specs.Lists.{recordsJudged}
 use Rattle.smf.proofs.Answer.{by-test, both, pick-test, pick-both}
 use Rattle.smf.proofs.ListLegality.{given-itself}
 use Rattle.rows.specs.Rows.{width}
 use Rattle.rows.specs.RowEvent.{cell, rowSpan, fieldsFit, isRow, rowNumber, rowMeta, rowKind, calledRow, eventOfRow, rowJudged}
 use Rattle.rows.specs.RowLists.{rowsJudged}
-use Rattle.claims.specs.Point3.{Bytes, BytesCarried, CarryBytes, TypeByte, TypeBytes, Fits, FitsAsBytes}
+use Rattle.claims.specs.Point3.{Bytes, BytesCarried, CarryBytes, Fits, FitsAsBytes}
+
+-- the types of the `Unknown` messages of records are bytes, as the code's are
+abbrev pub TypeByte : Carried Span → Type 0
+TypeByte nothing = Unit {0}
+TypeByte (owned p) = Unit {0}
+TypeByte (untold t p) = t < 256
+
+abbrev pub TypeBytes : List (Event Span) → Type 0
+TypeBytes [] = Unit {0}
+TypeBytes (e ∷ es) = TypeByte (carries (e .kind)) × TypeBytes es
 
 take-bytes : (n : ℕ) (s : List ℕ) → Bytes s → Bytes (take n s)
 take-bytes zero s h = tt

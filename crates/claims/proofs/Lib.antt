@@ -20,6 +20,7 @@ pub mod Bytes
 pub mod Carried
 pub mod Point3
 pub mod ReadAgain
+pub mod Owned
 pub mod Point3Calls
 pub mod EntrySays
 pub mod EntryWrites

@@ -1,13 +1,10 @@
 -- Point 3, proved of whatever the promises permit: what they say is the definitions', of which it holds.
 use mathlib.Core.Path.{_≡_, refl, sym, ap, _∙_, subst}
 use mathlib.Core.Bool.{true}
-use mathlib.Core.List.{List, [], _∷_, _++_, map}
+use mathlib.Core.List.{List, _++_, map}
 use Prim.Native.Nat.{ℕ, _-_}
 use native.Mathlib.Omega.{arith}
-use contract.Lifetimes.{Lfts}
 use denote.Ref.{now}
-use denote.Struct.Laws as struct
-use borrow.Fn.Kinds.{Dens, GoodsP}
 use lib.ListN.{length, take, replicate, length-map}
 use lib.Seq.{take-append-seam, length-take-le}
 use Rattle.smf.specs.Answer.{Answer, Rules, strictOf, gives}
@@ -26,9 +23,6 @@ use Rattle.base.specs.declared.Running.{Running}
 use Rattle.event.specs.Event.{eventOf}
 use Rattle.event.specs.declared.TrackEvent.{TrackEvent}
 use Rattle.track.specs.List.{capacity, recordOf}
-use Rattle.track.proofs.list.EventList as list
-use Rattle.track.proofs.list.EventList.Laws as laws
-use Rattle.write.proofs.records.write_list as write-list
 use Rattle.track.specs.Read.{listRead}
 use Rattle.track.specs.declared.list.EventList.{EventList}
 use Rattle.rows.specs.RowLists.{rowsJudged}
@@ -37,12 +31,13 @@ use Rattle.write.specs.ListAnswers.{wroteList}
 use Rattle.write.specs.declared.answer.WroteList.{WroteList}
 use Rattle.write.specs.declared.answer.WroteEvent.{WroteEvent}
 use Rattle.write.specs.declared.answer.WroteEvent.the-variants as event
-use Rattle.claims.specs.Point3.{Bytes, TypeBytes, FitsAsBytes, ListWriteSays, ReadBack, ReadAgain, NeverBegins, Point3}
+use Rattle.claims.specs.Point3.{Bytes, FitsAsBytes, ListWriteSays, ReadBack, ReadAgain, NeverBegins, Point3}
 use Rattle.claims.specs.Calls.{EventListRead, WriteEvent}
 use Rattle.claims.proofs.Calls as calls
 use Rattle.claims.proofs.Point3.{rows-lawful, list-write-says, writes}
 use Rattle.claims.proofs.Refusals.{legal-by}
-use Rattle.claims.proofs.Carried.{records-carry, rows-carry, fits-as-bytes}
+use Rattle.claims.proofs.Carried.{TypeBytes, records-carry, rows-carry, fits-as-bytes}
+use Rattle.claims.proofs.Owned.{full-list, list-types}
 use Rattle.claims.proofs.EventWrites.{event-wrote}
 use Rattle.claims.proofs.ReadAgain as read-again
 use Rattle.claims.proofs.ReadAgain.{left, own, read, Again}
@@ -123,12 +118,6 @@ begins running running′ rules rules′ bytes bytes′ e e′ out out′ at at�
     let h₁ : writeEvent running (legal rules′ bytes′ e′) out′ 0 .written .answer ≡ gives n′ = rw (told′, z′, same) at h′ in
     never-begins running rules rules′ bytes bytes′ e e′ out out′ n n′ h₀ h₁ alike more (rw (told, z, told′, z′, same) at q)
 
--- the array of a list has as many records as its type says
-full-list : (κs : Lfts 2) (a : Dens κs write-list.Kinds.ps) → GoodsP κs write-list.Kinds.ps a → length (a .0 .records) ≡ capacity
-full-list κs a good =
-    let fields = struct.owed list.the-type laws.the-laws (a .0) (struct.val list.the-type laws.the-laws (a .0) ∷ []) (good .0) in
-    sym (length-map (a .0 .records) _) ∙ fields .0 .1 .0 .1
-
 again : (list : EventList) (running : Running) (rules : base.Rules) (bytes out : List ℕ) (w : ListWritten)
     → w ≡ writeList capacity (running .status) (recordsJudged (rulesOf rules) bytes (map recordOf (list .records))) (list .count) out
     → (n : ℕ) → w .answer ≡ wrote n → length (list .records) ≡ capacity → EventListRead (ReadAgain list running rules bytes w n)
@@ -175,7 +164,8 @@ point-3 =
       writes-rows = calls.write-rows _ (λ rows count running rules bytes out r end told.
           subst (ListWriteSays (rulesOf rules) capacity (running .status) (rowsJudged (rulesOf rules) bytes count rows) count out) (sym told)
           (list-write-says (rulesOf rules) capacity (running .status) (rowsJudged (rulesOf rules) bytes count rows) (rows-lawful (rulesOf rules) bytes count rows) count out));
-      bytes = calls.write-list _ records-fit;
+      bytes = λ κs a r e told good n h payload.
+          records-fit (a .0) (a .1 .0) (a .1 .1 .0) (now (a .1 .1 .1 .0)) (now (a .1 .1 .1 .1 .0)) r (now (e .1 .1 .1 .1 .0)) told n h payload (list-types κs a good);
       bytes-rows = calls.write-rows _ rows-fit;
       reads-back = λ κs a r e told good n h.
           again (a .0) (a .1 .0) (a .1 .1 .0) (now (a .1 .1 .1 .0)) (now (a .1 .1 .1 .1 .0)) (wroteList r (now (e .1 .1 .1 .1 .0))) told n h (full-list κs a good);

@@ -43,16 +43,6 @@ abbrev pub CarryBytes : List (Event (List ℕ)) → Type 0
 CarryBytes [] = Unit {0}
 CarryBytes (e ∷ es) = BytesCarried (carries (e .kind)) × CarryBytes es
 
--- the types of the `Unknown` messages of records are bytes, as the code's are
-abbrev pub TypeByte : Carried Span → Type 0
-TypeByte nothing = Unit {0}
-TypeByte (owned p) = Unit {0}
-TypeByte (untold t p) = t < 256
-
-abbrev pub TypeBytes : List (Event Span) → Type 0
-TypeBytes [] = Unit {0}
-TypeBytes (e ∷ es) = TypeByte (carries (e .kind)) × TypeBytes es
-
 module _ (rules : Rules) (most running : ℕ) where
   -- document 01: bytes that read strictly as these events
   abbrev pub ReadsStrictly : List (Event (List ℕ)) → List ℕ → Type 0
@@ -106,7 +96,7 @@ pub record ReadBack (raw : List ℕ) (r : ListHeld) (n after : ℕ) (bytes : Lis
   pub status : r .running ≡ after
   pub same : SameList raw (r .list .records) (r .list .count) bytes records count
 
--- a call of `write_list` whose arguments are values of their types, as those of every call are: an array then has all its elements
+-- a call of `write_list` whose arguments are values of their types, as those of every call are: an array then has all its elements, and a `u8` is a byte
 abbrev pub WriteOwnedList : (EventList → Running → base.Rules → List ℕ → List ℕ → WroteList → List ℕ → Type 0) → Type 0
 WriteOwnedList Claim =
     Always write-list.Reads.Learnt
@@ -134,8 +124,8 @@ pub record Point3 : Type 0 where
   -- `write_rows` in the same way, of its rows as they are judged
   pub writes-rows : WriteRows (λ rows count running rules bytes out r end.
       ListWriteSays (rulesOf rules) capacity (running .status) (rowsJudged (rulesOf rules) bytes count rows) count out (wroteList r end))
-  -- and what fits is a byte string, where the payload bytes are bytes, and the types of records
-  pub bytes : WriteList (λ list running rules bytes out r end. (n : ℕ) → wroteList r end .answer ≡ wrote n → Bytes bytes → TypeBytes (map recordOf (list .records))
+  -- and what fits is a byte string, where the payload bytes are bytes
+  pub bytes : WriteOwnedList (λ list running rules bytes out r end. (n : ℕ) → wroteList r end .answer ≡ wrote n → Bytes bytes
       → FitsAsBytes (rulesOf rules) capacity (running .status) (recordsJudged (rulesOf rules) bytes (map recordOf (list .records))) (list .count) out)
   pub bytes-rows : WriteRows (λ rows count running rules bytes out r end. (n : ℕ) → wroteList r end .answer ≡ wrote n → Bytes bytes
       → FitsAsBytes (rulesOf rules) capacity (running .status) (rowsJudged (rulesOf rules) bytes count rows) count out)
