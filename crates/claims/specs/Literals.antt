@@ -44,7 +44,7 @@ use Rattle.same.proofs as same
 use Rattle.loader.proofs as loader
 use Rattle.same.specs.declared.of_rows.Sameness.{Sameness}
 use Rattle.same.specs.declared.of_rows.Sameness.the-variants as sameness
-use Rattle.claims.specs.Calls.{Always, WriteVarlenSlice, EventListRead, WriteEvent, WriteList, WriteRows}
+use Rattle.claims.specs.Calls.{Always, first, second, third, fourth, fifth, WriteVarlenSlice, EventListRead, WriteEvent, WriteList, WriteRows}
 use Rattle.claims.specs.Table.{among}
 use Rattle.claims.specs.Stands.{statusLeft}
 use Rattle.claims.specs.SmfForms.{Unnamed}
@@ -124,7 +124,7 @@ pub record Records : Type 0 where
 pub record Left : Type 0 where
   -- where the running status is handed back, and where it is lent: `read_event` promises `Leaves`
   pub read-step : Always events.running.«read_step».Reads.Learnt (λ κs a z e.
-      LeftBehind (a .1 .1 .1 .0) (now (a .0)) (a .1 .0) (a .1 .1 .0) (eventRead (z .read)) (z .running .status))
+      LeftBehind (fourth a) (now (first a)) (second a) (third a) (eventRead (z .read)) (z .running .status))
   pub lent : (raw : List ℕ) (at : ℕ) (running : Running) (rules : Rules) (r : ReadEvent) (left : Running)
       → Leaves (eventAt (rulesOf rules) (running .status) raw at) r left → LeftBehind rules raw at running (eventRead r) (left .status)
 
@@ -147,10 +147,10 @@ pub record Given : Type 0 where
       ((n : ℕ) → a .0 ≡ 2 * n → z .strict ≡ false) × ((n : ℕ) → a .0 ≡ 2 * n + 1 → z .strict ≡ true))
   -- a row of ten cells that is not all there is no event's: 18
   pub row-short : Always rows.back.«row_event_at».Reads.Learnt (λ κs a z e.
-      length (now (a .0)) < a .1 .0 + 10 → rowAnswer z ≡ refuses 18)
+      length (now (first a)) < second a + 10 → rowAnswer z ≡ refuses 18)
   -- two sheets compared: 21 where either count is above 128, and then 18 where a row of either is no event's
   pub sheets : Always same.«of_rows».«same_row_lists».Reads.Learnt (λ κs a z e.
-      SheetsRefused (now (a .0)) (a .1 .0) (now (a .1 .1 .1 .0)) (a .1 .1 .1 .1 .0) (answered z))
+      SheetsRefused (now (first a)) (second a) (now (fourth a)) (fifth a) (answered z))
 
 -- document 01: writing checks 1, then what forbids the event, 18, 19, 22, 23 in that order, then 20. An `Unknown` can be refused by each of them
 pub record EventOrder (running : ℕ) (judged : Answer (Event (List ℕ))) (bytes : List ℕ) (e : Event Span) (out : List ℕ) (at : ℕ) (answer : Answer ℕ) : Type 0 where

@@ -4,7 +4,6 @@ use mathlib.Core.Path.{_≡_}
 use mathlib.Core.List.{List, [], _∷_, _++_, map}
 use mathlib.Core.Logic.{_↔_}
 use Prim.Native.Nat.{ℕ, _≤_, _<_}
-use denote.Ref.{now}
 use borrow.Fn.Kinds.{GoodsP}
 use lib.ListN.{length, take, drop}
 use Rattle.smf.specs.Answer.{Answer, gives, Rules, strictOf}
@@ -26,6 +25,7 @@ use Rattle.write.specs.ListAnswers.{wroteList}
 use Rattle.write.specs.declared.answer.WroteEvent.{WroteEvent}
 use Rattle.write.specs.declared.answer.WroteList.{WroteList}
 use Rattle.write.proofs.records.write_list as write-list
+use Rattle.claims.specs.Calls as shown
 use Rattle.claims.specs.Calls.{Always, EventListRead, WriteEvent, WriteList, WriteRows}
 
 -- numbers that are bytes
@@ -100,8 +100,7 @@ pub record ReadBack (raw : List ℕ) (r : ListHeld) (n after : ℕ) (bytes : Lis
 abbrev pub WriteOwnedList : (EventList → Running → base.Rules → List ℕ → List ℕ → WroteList → List ℕ → Type 0) → Type 0
 WriteOwnedList Claim =
     Always write-list.Reads.Learnt
-    (λ κs a r e. GoodsP κs write-list.Kinds.ps a
-    → Claim (a .0) (a .1 .0) (a .1 .1 .0) (now (a .1 .1 .1 .0)) (now (a .1 .1 .1 .1 .0)) r (now (e .1 .1 .1 .1 .0)))
+    (λ κs a r e. GoodsP κs write-list.Kinds.ps a → shown.writeList Claim κs a r e)
 
 -- a list that `write_list` wrote: what `EventList::read` reads of its bytes, by the same rules, strictly, and from the same running status
 module _ (list : EventList) (running : Running) (rules : base.Rules) (bytes : List ℕ) (w : ListWritten) (n : ℕ) where
