@@ -47,7 +47,8 @@ use Rattle.track.specs.declared.read.ReadList.{ReadList}
 use Rattle.rows.specs.RowEvent.{isRow, eventOfRow}
 use Rattle.claims.specs.Table.{among}
 use Rattle.claims.specs.Stands.{EventOrLeft}
-use Rattle.claims.specs.Literals.{upTo, Widths, Values, pastCount, Records, LeftBehind, Left, answered, SheetsRefused, Given, EventOrder, ListOrder, Order, Literals}
+use Rattle.loader_track.specs.Same.{samenessAnswered}
+use Rattle.claims.specs.Literals.{upTo, Widths, Values, pastCount, Records, LeftBehind, Left, SheetsRefused, Given, EventOrder, ListOrder, Order, Literals}
 use Rattle.claims.specs.SmfForms.{Unnamed}
 use Rattle.claims.proofs.Calls as calls
 use Rattle.claims.proofs.SmfForms.{unnamed-form}
@@ -223,12 +224,12 @@ left-behind =
     record { read-step = λ κs a z e told. lent (now (a .0)) (a .1 .0) (a .1 .1 .0) (a .1 .1 .1 .0) (z .read) (z .running) told; lent = lent }
 
 -- an answer to what cannot be compared
-said-number : (n : ℕ) (Rule : Type 0) (z : Sameness) → Says z (refuses n) Rule → answered z ≡ n
+said-number : (n : ℕ) (Rule : Type 0) (z : Sameness) → Says z (refuses n) Rule → samenessAnswered z ≡ n
 said-number n Rule (sameness.Told told) s = absurd s
 said-number n Rule (sameness.Refused m) s = s
 
 module _ (a : List ℕ) (m : ℕ) (b : List ℕ) (n : ℕ) where
-  sheets-refused : (Rule : Type 0) (z : Sameness) → Says z (listsAsked 128 a m b n) Rule → SheetsRefused a m b n (answered z)
+  sheets-refused : (Rule : Type 0) (z : Sameness) → Says z (listsAsked 128 a m b n) Rule → SheetsRefused a m b n (samenessAnswered z)
   unfolding listsAsked
   sheets-refused Rule z told =
       record {

@@ -42,8 +42,7 @@ use Rattle.write.specs.Wrote.{wroteEvent}
 use Rattle.write.specs.ListAnswers.{wroteList}
 use Rattle.same.proofs as same
 use Rattle.loader.proofs as loader
-use Rattle.same.specs.declared.of_rows.Sameness.{Sameness}
-use Rattle.same.specs.declared.of_rows.Sameness.the-variants as sameness
+use Rattle.loader_track.specs.Same.{samenessAnswered}
 use Rattle.claims.specs.Calls.{Always, first, second, third, fourth, fifth, WriteVarlenSlice, EventListRead, WriteEvent, WriteList, WriteRows}
 use Rattle.claims.specs.Table.{among}
 use Rattle.claims.specs.Stands.{statusLeft}
@@ -128,11 +127,6 @@ pub record Left : Type 0 where
   pub lent : (raw : List ℕ) (at : ℕ) (running : Running) (rules : Rules) (r : ReadEvent) (left : Running)
       → Leaves (eventAt (rulesOf rules) (running .status) raw at) r left → LeftBehind rules raw at running (eventRead r) (left .status)
 
--- the number of a refusal to compare, and 0 where sameness is told
-abbrev pub answered : Sameness → ℕ
-answered (sameness.Told told) = 0
-answered (sameness.Refused n) = numberOf n
-
 -- two sheets and their counts, and the number of a refusal
 pub record SheetsRefused (a : List ℕ) (m : ℕ) (b : List ℕ) (n number : ℕ) : Type 0 where
   pub first-many : 128 < m → number ≡ 21
@@ -150,7 +144,7 @@ pub record Given : Type 0 where
       length (now (first a)) < second a + 10 → rowAnswer z ≡ refuses 18)
   -- two sheets compared: 21 where either count is above 128, and then 18 where a row of either is no event's
   pub sheets : Always same.«of_rows».«same_row_lists».Reads.Learnt (λ κs a z e.
-      SheetsRefused (now (first a)) (second a) (now (fourth a)) (fifth a) (answered z))
+      SheetsRefused (now (first a)) (second a) (now (fourth a)) (fifth a) (samenessAnswered z))
 
 -- document 01: writing checks 1, then what forbids the event, 18, 19, 22, 23 in that order, then 20. An `Unknown` can be refused by each of them
 pub record EventOrder (running : ℕ) (judged : Answer (Event (List ℕ))) (bytes : List ℕ) (e : Event Span) (out : List ℕ) (at : ℕ) (answer : Answer ℕ) : Type 0 where
