@@ -22,14 +22,14 @@ use Rattle.event.specs.declared.TrackEvent.{TrackEvent}
 use Rattle.event.specs.declared.read.ReadEvent.{ReadEvent}
 use Rattle.write.specs.Wrote.{wroteEvent}
 use Rattle.write.specs.declared.answer.WroteEvent.{WroteEvent}
-use Rattle.claims.specs.Shortest.{Written, Shortest, NotLenient}
+use Rattle.claims.specs.Shortest.{WrittenFor, Shortest, NotLenient}
 use Rattle.claims.proofs.Calls as calls
 use Rattle.claims.proofs.EventWrites.{event-wrote}
 use Rattle.claims.proofs.Refusals.{legal-by}
 
 -- what is written of an event that is the same has its own length
 written : (running : ℕ) (raw : List ℕ) (a : EventAt) (Reaches : ℕ → ℕ → Type 0) → ((from : ℕ) → Reaches from (from + length (encodeEvent running (mapEvent (bytesOf raw) (a .event)))))
-    → Written running raw a Reaches
+    → WrittenFor running raw a Reaches
 written running raw a Reaches law = calls.write-event _ said where
   said : (event : TrackEvent) (running′ : Running) (rules : base.Rules) (bytes out : List ℕ) (at : ℕ) (r : WroteEvent) (end : List ℕ)
       → wroteEvent r end ≡ writeEvent (running′ .status) (legal (rulesOf rules) bytes (eventOf event)) out at
@@ -51,7 +51,7 @@ pub shortest : Shortest
 shortest =
     calls.read-event _ said where
       said : (raw : List ℕ) (at : ℕ) (running : Running) (rules : base.Rules) (r : ReadEvent) → eventRead r ≡ eventAt (rulesOf rules) (running .status) raw at
-          → (a : EventAt) → rules .strict ≡ true → eventRead r ≡ readsAt a → Written (running .status) raw a (λ from n. n ≤ from + a .used)
+          → (a : EventAt) → rules .strict ≡ true → eventRead r ≡ readsAt a → WrittenFor (running .status) raw a (λ from n. n ≤ from + a .used)
       said raw at running rules r told a strict e =
           let few = used (rulesOf rules) (running .status) raw at a strict (sym told ∙ e) in
           written (running .status) raw a (λ from n. n ≤ from + a .used) (λ from. omega (arith, few))
@@ -76,10 +76,10 @@ not-lenient =
     calls.read-event _ said where
       said : (raw : List ℕ) (at : ℕ) (running : Running) (rules : base.Rules) (r : ReadEvent) → eventRead r ≡ eventAt (rulesOf rules) (running .status) raw at
           → raw ≡ p7 → at ≡ 0 → running .status ≡ 0 → rules .strict ≡ false
-          → (a : EventAt) × (eventRead r ≡ readsAt a) × (a .used ≡ 2) × Written 0 raw a (λ from n. n ≡ from + 3)
+          → (a : EventAt) × (eventRead r ≡ readsAt a) × (a .used ≡ 2) × WrittenFor 0 raw a (λ from n. n ≡ from + 3)
       said raw at running rules r told q z none lenient = (
         empty,
         told ∙ rw (q, z, none, lenient) p7-read,
         refl,
-        subst (λ (s : List ℕ). Written 0 s empty (λ from n. n ≡ from + 3)) (sym q) (written 0 p7 empty (λ from n. n ≡ from + 3) (λ from. rw p7-length)),
+        subst (λ (s : List ℕ). WrittenFor 0 s empty (λ from n. n ≡ from + 3)) (sym q) (written 0 p7 empty (λ from n. n ≡ from + 3) (λ from. rw p7-length)),
       )

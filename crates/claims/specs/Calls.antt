@@ -88,8 +88,8 @@ pub record Lent (A : Type 0) : Type 0 where
   pub before : A
   pub after : A
 
-abbrev pub lent : {A : Type 0} → RefT A → RefT A → Lent A
-lent x y = record { before = now x; after = now y }
+abbrev pub whileLent : {A : Type 0} → RefT A → RefT A → Lent A
+whileLent x y = record { before = now x; after = now y }
 
 -- what is shown together
 infixr 40 _&_
@@ -100,32 +100,32 @@ a & b = (a, b)
 
 module _ {ℓ} {X : Type ℓ} where
   -- `self.write_varlen(out, at)`, its answer, and what `out` holds at the end
-  abbrev pub writeVarlen : (u28 → List ℕ → ℕ → WroteNumber → List ℕ → X) → Shows write-varlen.Reads.Learnt X
-  writeVarlen show κs a r e = show (first a) (now (second a)) (third a) r (now (second e))
+  abbrev pub writeVarlenCall : (u28 → List ℕ → ℕ → WroteNumber → List ℕ → X) → Shows write-varlen.Reads.Learnt X
+  writeVarlenCall show κs a r e = show (first a) (now (second a)) (third a) r (now (second e))
 
   -- `write_varlen_slice(bytes, slice, out, at)`, its answer, and what `out` holds at the end
-  abbrev pub writeVarlenSlice : (List ℕ → Range → List ℕ → ℕ → WroteNumber → List ℕ → X) → Shows write-varlen-slice.Reads.Learnt X
-  writeVarlenSlice show κs a r e = show (now (first a)) (second a) (now (third a)) (fourth a) r (now (third e))
+  abbrev pub writeVarlenSliceCall : (List ℕ → Range → List ℕ → ℕ → WroteNumber → List ℕ → X) → Shows write-varlen-slice.Reads.Learnt X
+  writeVarlenSliceCall show κs a r e = show (now (first a)) (second a) (now (third a)) (fourth a) r (now (third e))
 
   -- `read_rows(raw, at, running, rules, cells)`, its answer, and what `cells` holds at the end
-  abbrev pub readRows : (List ℕ → ℕ → Running → Rules → List ℕ → ReadRows → List ℕ → X) → Shows read-rows.Reads.Learnt X
-  readRows show κs a r e = show (now (first a)) (second a) (third a) (fourth a) (now (fifth a)) r (now (fifth e))
+  abbrev pub readRowsCall : (List ℕ → ℕ → Running → Rules → List ℕ → ReadRows → List ℕ → X) → Shows read-rows.Reads.Learnt X
+  readRowsCall show κs a r e = show (now (first a)) (second a) (third a) (fourth a) (now (fifth a)) r (now (fifth e))
 
   -- `write_event(event, running, rules, bytes, out, at)`, its answer, and what `out` holds at the end
-  abbrev pub writeEvent : (TrackEvent → Running → Rules → List ℕ → List ℕ → ℕ → WroteEvent → List ℕ → X) → Shows write-event.Reads.Learnt X
-  writeEvent show κs a r e = show (first a) (second a) (third a) (now (fourth a)) (now (fifth a)) (sixth a) r (now (fifth e))
+  abbrev pub writeEventCall : (TrackEvent → Running → Rules → List ℕ → List ℕ → ℕ → WroteEvent → List ℕ → X) → Shows write-event.Reads.Learnt X
+  writeEventCall show κs a r e = show (first a) (second a) (third a) (now (fourth a)) (now (fifth a)) (sixth a) r (now (fifth e))
 
   -- `write_row(row, running, rules, bytes, out, at)`, its answer, and what `out` holds at the end
-  abbrev pub writeRow : (List ℕ → Running → Rules → List ℕ → List ℕ → ℕ → WroteEvent → List ℕ → X) → Shows write-row.Reads.Learnt X
-  writeRow show κs a r e = show (first a) (second a) (third a) (now (fourth a)) (now (fifth a)) (sixth a) r (now (fifth e))
+  abbrev pub writeRowCall : (List ℕ → Running → Rules → List ℕ → List ℕ → ℕ → WroteEvent → List ℕ → X) → Shows write-row.Reads.Learnt X
+  writeRowCall show κs a r e = show (first a) (second a) (third a) (now (fourth a)) (now (fifth a)) (sixth a) r (now (fifth e))
 
   -- `write_list(list, running, rules, bytes, out)`, its answer, and what `out` holds at the end
-  abbrev pub writeList : (EventList → Running → Rules → List ℕ → List ℕ → WroteList → List ℕ → X) → Shows write-list.Reads.Learnt X
-  writeList show κs a r e = show (first a) (second a) (third a) (now (fourth a)) (now (fifth a)) r (now (fifth e))
+  abbrev pub writeListCall : (EventList → Running → Rules → List ℕ → List ℕ → WroteList → List ℕ → X) → Shows write-list.Reads.Learnt X
+  writeListCall show κs a r e = show (first a) (second a) (third a) (now (fourth a)) (now (fifth a)) r (now (fifth e))
 
   -- `write_rows(rows, count, running, rules, bytes, out)`, its answer, and what `out` holds at the end
-  abbrev pub writeRows : (List ℕ → ℕ → Running → Rules → List ℕ → List ℕ → WroteList → List ℕ → X) → Shows write-rows.Reads.Learnt X
-  writeRows show κs a r e = show (now (first a)) (second a) (third a) (fourth a) (now (fifth a)) (now (sixth a)) r (now (sixth e))
+  abbrev pub writeRowsCall : (List ℕ → ℕ → Running → Rules → List ℕ → List ℕ → WroteList → List ℕ → X) → Shows write-rows.Reads.Learnt X
+  writeRowsCall show κs a r e = show (now (first a)) (second a) (third a) (fourth a) (now (fifth a)) (now (sixth a)) r (now (sixth e))
 
 -- Claims of every call
 
@@ -134,14 +134,14 @@ abbrev pub ReadU7 : (List ℕ → ℕ → Rules → ReadNumber → Type 0) → T
 ReadU7 Claim = Always read-u7.Reads.Learnt (λ κs a r e. Claim (now (first a)) (second a) (third a) r)
 
 abbrev pub WriteVarlen : (u28 → List ℕ → ℕ → WroteNumber → List ℕ → Type 0) → Type 0
-WriteVarlen Claim = Always write-varlen.Reads.Learnt (writeVarlen Claim)
+WriteVarlen Claim = Always write-varlen.Reads.Learnt (writeVarlenCall Claim)
 
 -- `read_varlen_slice(raw, at, rules)`, and its answer
 abbrev pub ReadVarlenSlice : (List ℕ → ℕ → Rules → ReadSlice → Type 0) → Type 0
 ReadVarlenSlice Claim = Always read-varlen-slice.Reads.Learnt (λ κs a r e. Claim (now (first a)) (second a) (third a) r)
 
 abbrev pub WriteVarlenSlice : (List ℕ → Range → List ℕ → ℕ → WroteNumber → List ℕ → Type 0) → Type 0
-WriteVarlenSlice Claim = Always write-varlen-slice.Reads.Learnt (writeVarlenSlice Claim)
+WriteVarlenSlice Claim = Always write-varlen-slice.Reads.Learnt (writeVarlenSliceCall Claim)
 
 -- `MetaMessage::read(raw, at, rules)`, and its answer
 abbrev pub MetaMessageRead : (List ℕ → ℕ → Rules → ReadMeta → Type 0) → Type 0
@@ -156,21 +156,21 @@ abbrev pub EventListRead : (List ℕ → ℕ → Running → Rules → ReadList 
 EventListRead Claim = Always read-list.Reads.Learnt (λ κs a r e. Claim (now (first a)) (second a) (third a) (fourth a) r)
 
 abbrev pub WriteEvent : (TrackEvent → Running → Rules → List ℕ → List ℕ → ℕ → WroteEvent → List ℕ → Type 0) → Type 0
-WriteEvent Claim = Always write-event.Reads.Learnt (writeEvent Claim)
+WriteEvent Claim = Always write-event.Reads.Learnt (writeEventCall Claim)
 
 abbrev pub WriteRow : (List ℕ → Running → Rules → List ℕ → List ℕ → ℕ → WroteEvent → List ℕ → Type 0) → Type 0
-WriteRow Claim = Always write-row.Reads.Learnt (writeRow Claim)
+WriteRow Claim = Always write-row.Reads.Learnt (writeRowCall Claim)
 
 -- `list_length(list, running, rules, bytes)`, and its answer
 abbrev pub ListLength : (EventList → Running → Rules → List ℕ → measured.ListLength → Type 0) → Type 0
 ListLength Claim = Always list-length.Reads.Learnt (λ κs a r e. Claim (first a) (second a) (third a) (now (fourth a)) r)
 
 abbrev pub WriteList : (EventList → Running → Rules → List ℕ → List ℕ → WroteList → List ℕ → Type 0) → Type 0
-WriteList Claim = Always write-list.Reads.Learnt (writeList Claim)
+WriteList Claim = Always write-list.Reads.Learnt (writeListCall Claim)
 
 -- `rows_length(rows, count, running, rules, bytes)`, and its answer
 abbrev pub RowsLength : (List ℕ → ℕ → Running → Rules → List ℕ → measured.ListLength → Type 0) → Type 0
 RowsLength Claim = Always rows-length.Reads.Learnt (λ κs a r e. Claim (now (first a)) (second a) (third a) (fourth a) (now (fifth a)) r)
 
 abbrev pub WriteRows : (List ℕ → ℕ → Running → Rules → List ℕ → List ℕ → WroteList → List ℕ → Type 0) → Type 0
-WriteRows Claim = Always write-rows.Reads.Learnt (writeRows Claim)
+WriteRows Claim = Always write-rows.Reads.Learnt (writeRowsCall Claim)

@@ -4,51 +4,51 @@ use Rattle.loader.proofs as loader
 use Rattle.loader_track.proofs as loader_track
 use Rattle.rows.proofs as rows
 use Rattle.event.proofs as event
-use Rattle.claims.specs.Calls.{OneAnswer, OneOutcome, readRows, _&_}
-use Rattle.claims.specs.EntryCalls.{numberRead, numberWrite, payloadRead, payloadWrite, formatRead, formatEncode, timingRead, timingEncode, fpsAsCode, fpsFromInt, fpsAsF32, smpteRead, smpteEncode, smpteSecondF32, smptePosition, bendAsInt, bendAsF32, bendAsF64, eventRead, eventLength, eventWrite, listRead, listLength, listWrite, eventSame, listSame}
+use Rattle.claims.specs.Calls.{OneAnswer, OneOutcome, readRowsCall, _&_}
+use Rattle.claims.specs.EntryCalls.{numberReadEntry, numberWriteEntry, payloadReadEntry, payloadWriteEntry, formatReadEntry, formatEncodeEntry, timingReadEntry, timingEncodeEntry, fpsAsCodeEntry, fpsFromIntEntry, fpsAsF32Entry, smpteReadEntry, smpteEncodeEntry, smpteSecondF32Entry, smptePositionEntry, bendAsIntEntry, bendAsF32Entry, bendAsF64Entry, eventReadEntry, eventLengthEntry, eventWriteEntry, listReadEntry, listLengthEntry, listWriteEntry, eventSameEntry, listSameEntry}
 
 -- `loader`: numbers, payloads, and the rules of a call
 pub record NumberEntries : Type 0 where
   pub rules : OneAnswer loader.rules.Reads.Learnt
   pub number-read : OneOutcome loader.numbers.«apk_number_read».Reads.Learnt
-      (numberRead (λ bytes at bits value next r. r & value .after & next .after))
+      (numberReadEntry (λ bytes at bits value next r. r & value .after & next .after))
   pub number-length : OneAnswer loader.numbers.«apk_number_length».Reads.Learnt
   pub number-write : OneOutcome loader.numbers.«apk_number_write».Reads.Learnt
-      (numberWrite (λ value out at next r. r & out .after & next .after))
+      (numberWriteEntry (λ value out at next r. r & out .after & next .after))
   pub payload-read : OneOutcome loader.numbers.«apk_payload_read».Reads.Learnt
-      (payloadRead (λ bytes at bits start length r. r & start .after & length .after))
+      (payloadReadEntry (λ bytes at bits start length r. r & start .after & length .after))
   pub payload-write : OneOutcome loader.numbers.«apk_payload_write».Reads.Learnt
-      (payloadWrite (λ payload start length out at next r. r & out .after & next .after))
+      (payloadWriteEntry (λ payload start length out at next r. r & out .after & next .after))
 
 -- `loader`: header fields
 pub record HeaderEntries : Type 0 where
   pub format-read : OneOutcome loader.fields.«apk_format_read».Reads.Learnt
-      (formatRead (λ bytes format r. r & format .after))
+      (formatReadEntry (λ bytes format r. r & format .after))
   pub format-encode : OneOutcome loader.fields.«apk_format_encode».Reads.Learnt
-      (formatEncode (λ format bytes r. r & bytes .after))
+      (formatEncodeEntry (λ format bytes r. r & bytes .after))
   pub timing-read : OneOutcome loader.fields.«apk_timing_read».Reads.Learnt
-      (timingRead (λ bytes ticks rate subframe r. r & ticks .after & rate .after & subframe .after))
+      (timingReadEntry (λ bytes ticks rate subframe r. r & ticks .after & rate .after & subframe .after))
   pub timing-encode : OneOutcome loader.fields.«apk_timing_encode».Reads.Learnt
-      (timingEncode (λ ticks rate subframe bytes r. r & bytes .after))
+      (timingEncodeEntry (λ ticks rate subframe bytes r. r & bytes .after))
 
 -- `loader`: rates and SMPTE times
 pub record TimeEntries : Type 0 where
   pub fps-from-code : OneAnswer loader.smpte.«apk_fps_from_code».Reads.Learnt
   pub fps-as-code : OneOutcome loader.smpte.«apk_fps_as_code».Reads.Learnt
-      (fpsAsCode (λ rate code r. r & code .after))
+      (fpsAsCodeEntry (λ rate code r. r & code .after))
   pub fps-from-int : OneOutcome loader.smpte.«apk_fps_from_int».Reads.Learnt
-      (fpsFromInt (λ raw rate r. r & rate .after))
+      (fpsFromIntEntry (λ raw rate r. r & rate .after))
   pub fps-as-f32 : OneOutcome loader.smpte.«apk_fps_as_f32».Reads.Learnt
-      (fpsAsF32 (λ rate frames r. r & frames .after))
+      (fpsAsF32Entry (λ rate frames r. r & frames .after))
   pub smpte-new : OneAnswer loader.smpte.«apk_smpte_new».Reads.Learnt
   pub smpte-read : OneOutcome loader.smpte.«apk_smpte_read».Reads.Learnt
-      (smpteRead (λ first minute second frame subframe bits time r. r & time .after))
+      (smpteReadEntry (λ first minute second frame subframe bits time r. r & time .after))
   pub smpte-encode : OneOutcome loader.smpte.«apk_smpte_encode».Reads.Learnt
-      (smpteEncode (λ hour minute second frame subframe rate bits bytes r. r & bytes .after))
+      (smpteEncodeEntry (λ hour minute second frame subframe rate bits bytes r. r & bytes .after))
   pub smpte-second-f32 : OneOutcome loader.smpte.«apk_smpte_second_f32».Reads.Learnt
-      (smpteSecondF32 (λ hour minute second frame subframe rate bits seconds r. r & seconds .after))
+      (smpteSecondF32Entry (λ hour minute second frame subframe rate bits seconds r. r & seconds .after))
   pub smpte-position : OneOutcome loader.smpte.«apk_smpte_position».Reads.Learnt
-      (smptePosition (λ hour minute second frame subframe rate bits subframes r. r & subframes .after))
+      (smptePositionEntry (λ hour minute second frame subframe rate bits subframes r. r & subframes .after))
 
 -- `loader`: bends
 pub record BendEntries : Type 0 where
@@ -59,40 +59,40 @@ pub record BendEntries : Type 0 where
   pub bend-from-f32 : OneAnswer loader.bends.«apk_bend_from_f32».Reads.Learnt
   pub bend-from-f64 : OneAnswer loader.bends.«apk_bend_from_f64».Reads.Learnt
   pub bend-as-int : OneOutcome loader.bends.«apk_bend_as_int».Reads.Learnt
-      (bendAsInt (λ raw int r. r & int .after))
+      (bendAsIntEntry (λ raw int r. r & int .after))
   pub bend-as-f32 : OneOutcome loader.bends.«apk_bend_as_f32».Reads.Learnt
-      (bendAsF32 (λ raw float r. r & float .after))
+      (bendAsF32Entry (λ raw float r. r & float .after))
   pub bend-as-f64 : OneOutcome loader.bends.«apk_bend_as_f64».Reads.Learnt
-      (bendAsF64 (λ raw float r. r & float .after))
+      (bendAsF64Entry (λ raw float r. r & float .after))
 
 -- `loader_track`: one event
 pub record EventEntries : Type 0 where
   pub event-read : OneOutcome loader_track.events.«apk_event_read».Reads.Learnt
-      (eventRead (λ bytes at running bits row used after r. r & row .after & used .after & after .after))
+      (eventReadEntry (λ bytes at running bits row used after r. r & row .after & used .after & after .after))
   pub event-length : OneOutcome loader_track.events.«apk_event_length».Reads.Learnt
-      (eventLength (λ row payload running bits length after r. r & length .after & after .after))
+      (eventLengthEntry (λ row payload running bits length after r. r & length .after & after .after))
   pub event-write : OneOutcome loader_track.events.«apk_event_write».Reads.Learnt
-      (eventWrite (λ row payload running bits out at next after r. r & out .after & next .after & after .after))
+      (eventWriteEntry (λ row payload running bits out at next after r. r & out .after & next .after & after .after))
 
 -- `loader_track`: lists
 pub record ListEntries : Type 0 where
   pub list-read : OneOutcome loader_track.«list_read».«apk_list_read».Reads.Learnt
-      (listRead (λ bytes at running bits rows count place after r. r & rows .after & count .after & place .after & after .after))
+      (listReadEntry (λ bytes at running bits rows count place after r. r & rows .after & count .after & place .after & after .after))
   pub list-length : OneOutcome loader_track.«list_write».«apk_list_length».Reads.Learnt
-      (listLength (λ rows count payload running bits length after index r. r & length .after & after .after & index .after))
+      (listLengthEntry (λ rows count payload running bits length after index r. r & length .after & after .after & index .after))
   pub list-write : OneOutcome loader_track.«list_write».«apk_list_write».Reads.Learnt
-      (listWrite (λ rows count payload running bits out length after index r. r & out .after & length .after & after .after & index .after))
+      (listWriteEntry (λ rows count payload running bits out length after index r. r & out .after & length .after & after .after & index .after))
 
 -- `loader_track`: sameness
 pub record Sameness : Type 0 where
   pub event-same : OneOutcome loader_track.sameness.«apk_event_same».Reads.Learnt
-      (eventSame (λ rowA bytesA rowB bytesB same r. r & same .after))
+      (eventSameEntry (λ rowA bytesA rowB bytesB same r. r & same .after))
   pub list-same : OneOutcome loader_track.sameness.«apk_list_same».Reads.Learnt
-      (listSame (λ rowsA countA bytesA rowsB countB bytesB same r. r & same .after))
+      (listSameEntry (λ rowsA countA bytesA rowsB countB bytesB same r. r & same .after))
 
 -- `rows`: a list read into rows of numbers
 pub record Sheets : Type 0 where
-  pub read-rows : OneOutcome rows.lists.«read_rows».Reads.Learnt (readRows (λ raw at running rules cells r end. r & end))
+  pub read-rows : OneOutcome rows.lists.«read_rows».Reads.Learnt (readRowsCall (λ raw at running rules cells r end. r & end))
 
 -- `event`: one event read with the running status handed over
 pub record HandedOver : Type 0 where

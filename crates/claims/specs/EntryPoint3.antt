@@ -17,8 +17,8 @@ use Rattle.rows.specs.RowLists.{rowsJudged, calledRows}
 use Rattle.loader.specs.Entry.{fromBits}
 use Rattle.loader_track.proofs as loader_track
 use Rattle.claims.specs.Calls.{Always, Lent}
-use Rattle.claims.specs.EntryCalls.{eventWrite, listRead, listWrite}
-use Rattle.claims.specs.EntrySays.{listLeft}
+use Rattle.claims.specs.EntryCalls.{eventWriteEntry, listReadEntry, listWriteEntry}
+use Rattle.claims.specs.EntrySays.{entryListLeft}
 use Rattle.claims.specs.Point3.{Bytes, FitsAsBytes, ListWriteSays}
 
 -- what `apk_list_read` handed out of so many bytes, to a running status: the rows of events that are the same, over the bytes that it read, as those
@@ -49,15 +49,15 @@ module _ (row payload : List ℕ) (running : ℕ) (own : List ℕ) where
 pub record EntryPoint3 : Type 0 where
   -- `apk_list_write`, of whatever its promise permits: accepted exactly when each row is a legal event and some bytes that fit the room read strictly as
   -- that list; what is written reads so and ends in the same running status, and no shorter bytes do
-  pub list-write : Always loader_track.«list_write».«apk_list_write».Reads.Learnt (listWrite (λ rows count payload running bits out long after index r.
-      ListWriteSays (fromBits bits) capacity running (rowsJudged (fromBits bits) payload count rows) count (out .before) (listLeft out long after index r)))
+  pub list-write : Always loader_track.«list_write».«apk_list_write».Reads.Learnt (listWriteEntry (λ rows count payload running bits out long after index r.
+      ListWriteSays (fromBits bits) capacity running (rowsJudged (fromBits bits) payload count rows) count (out .before) (entryListLeft out long after index r)))
   -- and what fits is a byte string, where the payload bytes are bytes
-  pub bytes : Always loader_track.«list_write».«apk_list_write».Reads.Learnt (listWrite (λ rows count payload running bits out long after index r.
+  pub bytes : Always loader_track.«list_write».«apk_list_write».Reads.Learnt (listWriteEntry (λ rows count payload running bits out long after index r.
       r ≡ 0 → Bytes payload → FitsAsBytes (fromBits bits) capacity running (rowsJudged (fromBits bits) payload count rows) count (out .before)))
   -- what it writes, `apk_list_read` reads strictly as the same list, and ends in the same running status
-  pub reads-back : Always loader_track.«list_write».«apk_list_write».Reads.Learnt (listWrite (λ rows count payload running bits out long after index r.
-      r ≡ 0 → Always loader_track.«list_read».«apk_list_read».Reads.Learnt (listRead (RowsAgain rows count payload running out long after))))
+  pub reads-back : Always loader_track.«list_write».«apk_list_write».Reads.Learnt (listWriteEntry (λ rows count payload running bits out long after index r.
+      r ≡ 0 → Always loader_track.«list_read».«apk_list_read».Reads.Learnt (listReadEntry (RowsAgain rows count payload running out long after))))
   -- `apk_event_write`, twice from one running status, each time at any place of a buffer, and strictly or not: where the bytes of one event begin with
   -- those of the other, the events are the same, whatever bytes their payloads are in
-  pub prefix-free : Always loader_track.events.«apk_event_write».Reads.Learnt (eventWrite (λ row payload running bits out at next after r.
-      r ≡ 0 → Always loader_track.events.«apk_event_write».Reads.Learnt (eventWrite (RowNeverBegins row payload running (drop at (take (next .after) (out .after)))))))
+  pub prefix-free : Always loader_track.events.«apk_event_write».Reads.Learnt (eventWriteEntry (λ row payload running bits out at next after r.
+      r ≡ 0 → Always loader_track.events.«apk_event_write».Reads.Learnt (eventWriteEntry (RowNeverBegins row payload running (drop at (take (next .after) (out .after)))))))

@@ -9,8 +9,8 @@ use Rattle.claims.specs.Calls.{Lent}
 use Rattle.claims.specs.Table.{OneOf}
 
 -- what was lent is at the end what it was
-abbrev pub Kept : {A : Type 0} → Lent A → Type 0
-Kept v = v .after ≡ v .before
+abbrev pub Unchanged : {A : Type 0} → Lent A → Type 0
+Unchanged v = v .after ≡ v .before
 
 -- an entry accepts, and something holds; or it refuses by one of these numbers, and something else does
 abbrev pub Outcome : List ℕ → ℕ → Type 0 → Type 0 → Type 0
@@ -31,13 +31,13 @@ saidList zero long index = wrote long
 saidList (suc n) long index = refusesAt (suc n) index
 
 -- what `apk_event_write` leaves
-abbrev pub eventLeft : Lent (List ℕ) → Lent ℕ → Lent ℕ → ℕ → EventWritten
-eventLeft out next after r = record { written = record { buffer = out .after; answer = said r (next .after) }; running = after .after }
+abbrev pub entryEventLeft : Lent (List ℕ) → Lent ℕ → Lent ℕ → ℕ → EventWritten
+entryEventLeft out next after r = record { written = record { buffer = out .after; answer = said r (next .after) }; running = after .after }
 
 -- what `apk_list_length` leaves
-abbrev pub sizeLeft : Lent ℕ → Lent ℕ → Lent ℕ → ℕ → ListSize
-sizeLeft long after index r = record { answer = saidList r (long .after) (index .after); running = after .after }
+abbrev pub entrySizeLeft : Lent ℕ → Lent ℕ → Lent ℕ → ℕ → ListSize
+entrySizeLeft long after index r = record { answer = saidList r (long .after) (index .after); running = after .after }
 
 -- what `apk_list_write` leaves
-abbrev pub listLeft : Lent (List ℕ) → Lent ℕ → Lent ℕ → Lent ℕ → ℕ → ListWritten
-listLeft out long after index r = record { buffer = out .after; answer = saidList r (long .after) (index .after); running = after .after }
+abbrev pub entryListLeft : Lent (List ℕ) → Lent ℕ → Lent ℕ → Lent ℕ → ℕ → ListWritten
+entryListLeft out long after index r = record { buffer = out .after; answer = saidList r (long .after) (index .after); running = after .after }

@@ -10,7 +10,7 @@ use Rattle.track.proofs as track
 use Rattle.rows.proofs as rows
 use Rattle.write.proofs as write
 use Rattle.same.proofs as same
-use Rattle.claims.specs.Calls.{OneAnswer, OneOutcome, writeVarlen, writeVarlenSlice, writeEvent, writeRow, writeList, writeRows, _&_}
+use Rattle.claims.specs.Calls.{OneAnswer, OneOutcome, writeVarlenCall, writeVarlenSliceCall, writeEventCall, writeRowCall, writeListCall, writeRowsCall, _&_}
 
 -- `base`, `number`: restricted numbers, refusals, the running status, variable-length numbers and payloads
 pub record Numbers : Type 0 where
@@ -46,9 +46,9 @@ pub record Numbers : Type 0 where
   pub is-valid : OneAnswer base.Running.«is_valid».Reads.Learnt
   pub read-u7 : OneAnswer number.u28.«read_u7».Reads.Learnt
   pub varlen-length : OneAnswer number.u28.«varlen_length».Reads.Learnt
-  pub write-varlen : OneOutcome number.u28.«write_varlen».Reads.Learnt (writeVarlen (λ self out at r end. r & end))
+  pub write-varlen : OneOutcome number.u28.«write_varlen».Reads.Learnt (writeVarlenCall (λ self out at r end. r & end))
   pub read-varlen-slice : OneAnswer number.payload.«read_varlen_slice».Reads.Learnt
-  pub write-varlen-slice : OneOutcome number.payload.«write_varlen_slice».Reads.Learnt (writeVarlenSlice (λ bytes slice out at r end. r & end))
+  pub write-varlen-slice : OneOutcome number.payload.«write_varlen_slice».Reads.Learnt (writeVarlenSliceCall (λ bytes slice out at r end. r & end))
 
 -- `header`: `Format`, `Timing`, `Fps`, `SmpteTime`, and the words and signed bytes that they are made of
 pub record Headers : Type 0 where
@@ -96,9 +96,9 @@ pub record Events : Type 0 where
   pub meta-read : OneAnswer meta.MetaMessage.read.Reads.Learnt
   pub event-read : OneAnswer event.TrackEvent.read.Reads.Learnt
   pub event-length : OneAnswer write.one.«event_length».Reads.Learnt
-  pub write-event : OneOutcome write.one.«write_event».Reads.Learnt (writeEvent (λ event running rules bytes out at r end. r & end))
+  pub write-event : OneOutcome write.one.«write_event».Reads.Learnt (writeEventCall (λ event running rules bytes out at r end. r & end))
   pub row-length : OneAnswer write.one.«row_length».Reads.Learnt
-  pub write-row : OneOutcome write.one.«write_row».Reads.Learnt (writeRow (λ row running rules bytes out at r end. r & end))
+  pub write-row : OneOutcome write.one.«write_row».Reads.Learnt (writeRowCall (λ row running rules bytes out at r end. r & end))
 
 -- `track`, `write`, `rows`, `same`: lists of events and of rows, an event as a row of numbers and back, and sameness
 pub record Lists : Type 0 where
@@ -106,9 +106,9 @@ pub record Lists : Type 0 where
   pub list-read : OneAnswer track.list.EventList.read.Reads.Learnt
   pub cursor-next : OneAnswer track.cursor.Cursor.next.Reads.Learnt
   pub list-length : OneAnswer write.records.«list_length».Reads.Learnt
-  pub write-list : OneOutcome write.records.«write_list».Reads.Learnt (writeList (λ list running rules bytes out r end. r & end))
+  pub write-list : OneOutcome write.records.«write_list».Reads.Learnt (writeListCall (λ list running rules bytes out r end. r & end))
   pub rows-length : OneAnswer write.«row_lists».«rows_length».Reads.Learnt
-  pub write-rows : OneOutcome write.«row_lists».«write_rows».Reads.Learnt (writeRows (λ rows count running rules bytes out r end. r & end))
+  pub write-rows : OneOutcome write.«row_lists».«write_rows».Reads.Learnt (writeRowsCall (λ rows count running rules bytes out r end. r & end))
   pub kind-row : OneAnswer rows.«kind_row».Reads.Learnt
   pub event-row : OneAnswer rows.«event_row».Reads.Learnt
   pub are-bytes : OneAnswer rows.back.«are_bytes».Reads.Learnt

@@ -10,8 +10,8 @@ use Rattle.write.specs.Wrote.{wroteEvent}
 use Rattle.claims.specs.Calls.{TrackEventRead, WriteEvent}
 
 -- the same event, written from a running status: how far its bytes reach
-abbrev pub Written : ℕ → List ℕ → EventAt → (ℕ → ℕ → Type 0) → Type 0
-Written running raw a Reaches =
+abbrev pub WrittenFor : ℕ → List ℕ → EventAt → (ℕ → ℕ → Type 0) → Type 0
+WrittenFor running raw a Reaches =
     WriteEvent (λ event running′ rules bytes out at r end. Same bytes (eventOf event) raw (a .event) → running′ .status ≡ running
     → (n : ℕ) → wroteEvent r end .written .answer ≡ gives n → Reaches at n)
 
@@ -19,7 +19,7 @@ Written running raw a Reaches =
 abbrev pub ShortestWhere : Bool → Type 0
 ShortestWhere strict =
     TrackEventRead (λ raw at running rules r. (a : EventAt) → rules .strict ≡ strict → eventRead r ≡ readsAt a
-    → Written (running .status) raw a (λ from n. n ≤ from + a .used))
+    → WrittenFor (running .status) raw a (λ from n. n ≤ from + a .used))
 
 -- it holds of strict reading
 abbrev pub Shortest : Type 0
@@ -29,4 +29,4 @@ Shortest = ShortestWhere true
 abbrev pub NotLenient : Type 0
 NotLenient =
     TrackEventRead (λ raw at running rules r. raw ≡ 0x00 ∷ 0xF0 ∷ [] → at ≡ 0 → running .status ≡ 0 → rules .strict ≡ false
-    → (a : EventAt) × (eventRead r ≡ readsAt a) × (a .used ≡ 2) × Written 0 raw a (λ from n. n ≡ from + 3))
+    → (a : EventAt) × (eventRead r ≡ readsAt a) × (a .used ≡ 2) × WrittenFor 0 raw a (λ from n. n ≡ from + 3))
