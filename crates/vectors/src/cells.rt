@@ -28,6 +28,7 @@ pub struct Given {
     pub last: usize,
 }
 
+// What a line gives, taken out of the cells by the widths that entries ask for.
 pub fn numbers(cells: &[u64; CELLS], last: usize) -> Given {
     Given {
         letter: byte(cells[0]),
@@ -45,14 +46,17 @@ pub fn numbers(cells: &[u64; CELLS], last: usize) -> Given {
     }
 }
 
+// A number's low byte.
 pub fn byte(n: u64) -> u8 {
     (n % 256) as u8
 }
 
+// A byte as a cell.
 pub fn wide(n: u8) -> u64 {
     n as u64
 }
 
+// A cell as a place.
 pub fn place(n: u64) -> usize {
     n as usize
 }

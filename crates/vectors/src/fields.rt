@@ -8,6 +8,7 @@ use loader::fields::apk_format_read;
 use loader::fields::apk_timing_encode;
 use loader::fields::apk_timing_read;
 
+// Asks for the format that bytes begin with.
 pub fn format_read(bytes: &[u8], cells: &mut [u64; CELLS]) -> usize {
     let mut format: u8 = 0xA5;
     let answer = apk_format_read(bytes, &mut format);
@@ -15,6 +16,7 @@ pub fn format_read(bytes: &[u8], cells: &mut [u64; CELLS]) -> usize {
     2
 }
 
+// Asks for the timing that bytes begin with.
 pub fn timing_read(bytes: &[u8], cells: &mut [u64; CELLS]) -> usize {
     let mut ticks: u16 = 0xA5;
     let mut rate: u8 = 0xA5;

@@ -9,6 +9,7 @@ pub fn single(bits: u32) -> f32 {
     }
 }
 
+// The same of a float of 64 bits.
 pub fn double(bits: u64) -> f64 {
     if 0x7FF0_0000_0000_0000 < bits % 0x8000_0000_0000_0000 {
         0.0 / 0.0
@@ -17,6 +18,7 @@ pub fn double(bits: u64) -> f64 {
     }
 }
 
+// The signed number of 16 bits.
 pub fn signed(bits: u16) -> i16 {
     if bits < 0x8000 {
         bits as i16
@@ -25,10 +27,12 @@ pub fn signed(bits: u16) -> i16 {
     }
 }
 
+// The low 16 bits of a number.
 pub fn low16(n: u64) -> u16 {
     (n % 0x1_0000) as u16
 }
 
+// The low 32 bits of a number.
 pub fn low32(n: u64) -> u32 {
     (n % 0x1_0000_0000) as u32
 }

@@ -34,6 +34,7 @@ pub struct Tally {
     line: u64,
 }
 
+// Writes how many lines were compared, and how many differ.
 fn count(compared: u64, differ: u64) {
     word(b" ");
     decimal(compared);
@@ -81,7 +82,7 @@ fn besides(given: Given, bytes: &[u8], cells: &mut [u64; CELLS]) -> usize {
     }
 }
 
-// The same, with the bytes as the first of an array.
+// One line asked, its bytes the first of an array.
 fn asked(given: Given, low: &[u8; LINE], length: usize, cells: &mut [u64; CELLS]) -> usize {
     let all: &[u8] = low;
     let start: usize = 0;
@@ -183,6 +184,7 @@ pub fn all(text: &[u8], cells: &mut [u64; CELLS]) -> Tally {
     ended(tally)
 }
 
+// Reads standard input: how many bytes it has.
 pub fn read(text: &mut [u8; INPUT]) -> usize {
     io::read_full(0, text)
 }

@@ -20,6 +20,7 @@ mod writes;
 use crate::cells::CELLS;
 use crate::lines::INPUT;
 
+// Runs the examples of the program's own text, then the stored answers of standard input.
 fn main() {
     let mut input = [0u8; INPUT];
     let mut cells = [0u64; CELLS];

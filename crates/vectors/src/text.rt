@@ -3,10 +3,12 @@ use crate::cells::ANSWER;
 use crate::cells::CELLS;
 use crate::cells::place;
 
+// Writes text as it is.
 pub fn word(text: &[u8]) {
     io::write_all(1, text);
 }
 
+// Writes a number.
 pub fn decimal(n: u64) {
     io::print_decimal(1, n);
 }

@@ -29,6 +29,7 @@ pub fn rate(given: u8, cells: &mut [u64; CELLS]) -> usize {
     put_bytes(&[from, coded, code, rated, rate], cells, 0)
 }
 
+// The six numbers of a time, behind the answer.
 fn put_six(six: &[u8; 6], cells: &mut [u64; CELLS]) -> usize {
     put_bytes(six, cells, 1)
 }
@@ -40,6 +41,7 @@ pub fn time_read(t: Given, cells: &mut [u64; CELLS]) -> usize {
     put_six(&six, cells)
 }
 
+// The five bytes of a time, behind the answers.
 fn put_five(five: &[u8; 5], cells: &mut [u64; CELLS]) -> usize {
     put_bytes(five, cells, 4)
 }

@@ -30,6 +30,7 @@ struct Asked {
     tried: u64,
 }
 
+// What was asked of a number that `try_from` takes.
 fn made(largest: u64, low: u64, tried: u64) -> Asked {
     Asked {
         largest,
@@ -39,6 +40,7 @@ fn made(largest: u64, low: u64, tried: u64) -> Asked {
     }
 }
 
+// What was asked of a number that `try_from` refuses.
 fn refused(largest: u64, low: u64, refusal: Refusal) -> Asked {
     Asked {
         largest,
@@ -48,6 +50,7 @@ fn refused(largest: u64, low: u64, refusal: Refusal) -> Asked {
     }
 }
 
+// What is asked of a number as one of so many bits: each type has functions of its own.
 fn of_u2(raw: u8) -> Asked {
     let largest = wide(u2::max_value().as_int());
     let low = wide(u2::new(raw).as_int());
@@ -144,6 +147,7 @@ struct Sums {
     ordered: u64,
 }
 
+// The sums with one number more.
 fn with(sums: Sums, n: u64) -> Sums {
     let plain = wrapping_add_u64(sums.plain, n);
     Sums {

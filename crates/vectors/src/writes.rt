@@ -46,6 +46,7 @@ fn payload_written(given: Given, bytes: &[u8], out: &mut [u8], cells: &mut [u64;
     2
 }
 
+// Asks how long a row's event is.
 fn event_measured(event: &[u64; WIDTH], running: u8, bytes: &[u8], cells: &mut [u64; CELLS]) {
     let mut length: usize = 0xA5;
     let mut after: u8 = 0xA5;
@@ -73,6 +74,7 @@ fn event_written(given: Given, bytes: &[u8], out: &mut [u8], cells: &mut [u64; C
     6
 }
 
+// Asks how long a list of rows is.
 fn list_measured(last: usize, count: usize, running: u8, bytes: &[u8], cells: &mut [u64; CELLS]) {
     let rows = part(cells, 3, last);
     let mut length: usize = 0xA5;
@@ -169,6 +171,7 @@ fn written(given: Given, bytes: &[u8], out: &mut [u8], cells: &mut [u64; CELLS])
     }
 }
 
+// The buffer as it is at the end, behind the answers.
 fn put_out(out: &[u8; ROOM], room: usize, cells: &mut [u64; CELLS], before: usize) -> usize {
     let all: &[u8] = out;
     let start: usize = 0;
@@ -178,6 +181,7 @@ fn put_out(out: &[u8; ROOM], room: usize, cells: &mut [u64; CELLS], before: usiz
     put_bytes(&all[start..room], cells, before)
 }
 
+// Asks for what a line wants written, into a buffer of the room that it names.
 pub fn answer(given: Given, bytes: &[u8], cells: &mut [u64; CELLS]) -> usize {
     let mut out = [0xA5u8; ROOM];
     let start: usize = 0;
