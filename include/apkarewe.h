@@ -50,32 +50,33 @@ enum apk_rules {
  * refusal's. */
 enum apk_answer {
     APK_ACCEPTED = 0,
-    APK_RUNNING_STATUS = 1,       /* running status invalid: neither none (0) nor 80..EF */
-    APK_NUMBER_CUT_OFF = 2,       /* strict: a number cut off by the end */
-    APK_NUMBER_CONTINUES = 3,     /* strict: fourth byte of a number continues */
-    APK_NO_STATUS = 4,            /* no byte where the status stands */
-    APK_NO_RUNNING_STATUS = 5,    /* data byte there, and the running status is none */
-    APK_SYSTEM_COMMON = 6,        /* status F1..F6 */
-    APK_SYSTEM_REALTIME = 7,      /* status F8..FE */
-    APK_CHANNEL_DATA_SHORT = 8,   /* channel data too short */
-    APK_CHANNEL_DATA_TOP_BIT = 9, /* channel data byte with bit 7 set */
-    APK_NO_META_TYPE = 10,        /* no meta type byte */
-    APK_PAYLOAD_CUT_OFF = 11,     /* strict: payload cut off */
-    APK_CHANNEL_OR_PORT = 12,     /* strict: channel above 15 or port above 127 */
-    APK_SMPTE_TIME = 13,          /* SMPTE time outside its ranges, also when one is built or its position or seconds
-                                     asked */
-    APK_KEY_SIGNATURE_SHORT = 14, /* key signature under two bytes */
-    APK_NO_SUCH_FORMAT = 15,      /* format above 2 */
-    APK_NO_SUCH_RATE = 16,        /* no such rate */
-    APK_HEADER_FIELD_SHORT = 17,  /* header field under two bytes */
-    APK_ABOVE_WIDTH = 18,         /* write: a restricted field above its width, or SMPTE time outside its ranges; also a
-                                     bend's value asked of a number above its width */
-    APK_PAYLOAD_OUTSIDE = 19,     /* write: payload range not inside the payload bytes; start beyond the end counts even
-                                     at length 0 */
-    APK_NO_ROOM = 20,             /* write: no room; apk_list_read alone: cells too few for the rows read */
-    APK_TOO_MANY_EVENTS = 21,     /* write: count above what a list holds, APK_LIST_ROWS */
-    APK_PAYLOAD_TOO_LONG = 22,    /* write: payload above 268,435,455 bytes */
-    APK_UNKNOWN_NAMED = 23,       /* write: Unknown that would be read as a named kind, or refused as a short key
+    APK_RUNNING_STATUS = 1,       /* the running status is invalid, neither none (0) nor 80..EF */
+    APK_NUMBER_CUT_OFF = 2,       /* strict: a number is cut off by the end of the bytes */
+    APK_NUMBER_CONTINUES = 3,     /* strict: the fourth byte of a number has bit 7 set, as if a fifth followed */
+    APK_NO_STATUS = 4,            /* no byte stands where the status is due */
+    APK_NO_RUNNING_STATUS = 5,    /* a data byte stands there, and the running status is none */
+    APK_SYSTEM_COMMON = 6,        /* the status is F1..F6, which no track may have */
+    APK_SYSTEM_REALTIME = 7,      /* the status is F8..FE, which no track may have */
+    APK_CHANNEL_DATA_SHORT = 8,   /* a channel message has too few data bytes */
+    APK_CHANNEL_DATA_TOP_BIT = 9, /* a data byte of a channel message has bit 7 set */
+    APK_NO_META_TYPE = 10,        /* no type byte of a meta message is there */
+    APK_PAYLOAD_CUT_OFF = 11,     /* strict: a payload is cut off by the end of the bytes */
+    APK_CHANNEL_OR_PORT = 12,     /* strict: a channel is above 15, or a port above 127 */
+    APK_SMPTE_TIME = 13,          /* an SMPTE time is outside its ranges, also where one is built, or its position or
+                                     seconds asked */
+    APK_KEY_SIGNATURE_SHORT = 14, /* a key signature has under two bytes */
+    APK_NO_SUCH_FORMAT = 15,      /* a format is above 2 */
+    APK_NO_SUCH_RATE = 16,        /* a number is no rate of SMPTE times */
+    APK_HEADER_FIELD_SHORT = 17,  /* a header field has under two bytes */
+    APK_ABOVE_WIDTH = 18,         /* written: a restricted field is above its width, or an SMPTE time outside its
+                                     ranges; also a bend's value asked of a number above its width */
+    APK_PAYLOAD_OUTSIDE = 19,     /* written: a payload's range is not inside the payload bytes; a start beyond their
+                                     end counts even at length 0 */
+    APK_NO_ROOM = 20,             /* written: there is no room; apk_list_read alone: the cells are too few for the rows
+                                     read */
+    APK_TOO_MANY_EVENTS = 21,     /* written: the count is above what a list holds, APK_LIST_ROWS */
+    APK_PAYLOAD_TOO_LONG = 22,    /* written: a payload is above 268,435,455 bytes */
+    APK_UNKNOWN_NAMED = 23,       /* written: an Unknown that would be read as a named kind, or refused as a short key
                                      signature */
     APK_FULL = 255                /* apk_list_read alone: APK_LIST_ROWS events read, and bytes left. No refusal */
 };
