@@ -2,6 +2,6 @@
 use Rattle.smf.specs.Answer as smf
 use Rattle.base.specs.declared.Rules.{Rules}
 
--- field for field
+-- the rules that a value of the code says, field for field
 abbrev pub rulesOf : Rules → smf.Rules
 rulesOf rules = record { strict = rules .strict }

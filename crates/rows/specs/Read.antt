@@ -19,6 +19,7 @@ pub record SheetAt : Type 0 where
   pub place : ℕ
   pub running : ℕ
 
+-- what is told of a list beside its rows
 abbrev pub sheetAt : smf.ListAt → SheetAt
 sheetAt l = record { count = length (l .events); stop = l .stop; place = l .place; running = l .running }
 
@@ -27,6 +28,7 @@ pub record SheetRead : Type 0 where
   pub cells : List ℕ
   pub answer : Answer SheetAt
 
+-- what is left in the cells after so many were put, and the answer
 abbrev pub sheetRead : smf.ListAt → Written → SheetRead
 sheetRead l w = record { cells = w .buffer; answer = andThen (w .answer) (λ (n : ℕ). gives (sheetAt l)) }
 
@@ -38,6 +40,7 @@ readSheet l cells = sheetRead l (put (sheetOf (l .events)) cells 0)
 abbrev pub rowsRead : RowsRead → SheetAt
 rowsRead r = record { count = r .count; stop = stopOf (r .stop); place = r .place; running = r .running .status }
 
+-- what each case of the answer says
 abbrev pub sheetAnswered : ReadRows → Answer SheetAt
 sheetAnswered (read.Rows r) = gives (rowsRead r)
 sheetAnswered (read.Refused n) = refuses (numberOf n)

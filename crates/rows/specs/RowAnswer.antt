@@ -7,6 +7,7 @@ use Rattle.event.specs.Event.{eventOf}
 use Rattle.rows.specs.declared.back.RowEvent.{RowEvent}
 use Rattle.rows.specs.declared.back.RowEvent.the-variants as back
 
+-- what each case of the answer says
 abbrev pub rowAnswer : RowEvent → Answer (Event Span)
 rowAnswer (back.Event e) = gives (eventOf e)
 rowAnswer (back.Refused n) = refuses (numberOf n)

@@ -50,6 +50,7 @@ fieldsFit n a b c d e f =
     (pick (eqb n 0x200) (ltb a 256)
     (isText (n - 0x100))))))))))))))))))))
 
+-- a cell of a row
 abbrev pub cell : List ℕ → ℕ → ℕ
 cell r i = getD r i 0
 
@@ -99,9 +100,11 @@ rowKind n a b c d e f span =
     (pick (eqb n 0xF7) (kind.escape span)
     (kind.meta (rowMeta n a b c d e f span))))
 
+-- the range of a payload, in the last two cells
 abbrev pub rowSpan : List ℕ → Span
 rowSpan r = record { start = cell r 8; length = cell r 9 }
 
+-- the event of cells that are an event's row
 unfoldable pub calledRow : List ℕ → Event Span
 calledRow r =
     event (cell r 0) (rowKind (cell r 1) (cell r 2) (cell r 3) (cell r 4) (cell r 5) (cell r 6) (cell r 7) (rowSpan r))

@@ -16,9 +16,11 @@ width = 10
 abbrev pub rowNumbers : Row → List ℕ
 rowNumbers r = r .kind ∷ r .a ∷ r .b ∷ r .c ∷ r .d ∷ r .e ∷ r .f ∷ r .start ∷ r .length ∷ []
 
+-- the row of a kind that carries no payload
 abbrev pub row : ℕ → ℕ → ℕ → ℕ → ℕ → ℕ → ℕ → List ℕ
 row number a b c d e f = number ∷ a ∷ b ∷ c ∷ d ∷ e ∷ f ∷ 0 ∷ 0 ∷ []
 
+-- the row of a kind that carries a payload, and of an unknown one its type
 abbrev pub rowLoad : ℕ → ℕ → Span → List ℕ
 rowLoad number a span = number ∷ a ∷ 0 ∷ 0 ∷ 0 ∷ 0 ∷ 0 ∷ span .start ∷ span .length ∷ []
 
@@ -48,11 +50,13 @@ metaRow (kind.keySignature sharps minor) = row 0x159 (byteOfSigned sharps) (pick
 metaRow (kind.sequencerSpecific p) = rowLoad 0x17F 0 p
 metaRow (kind.unknown t p) = rowLoad 0x200 t p
 
+-- the row of a kind; F0 and F7 by their status
 abbrev pub kindRow : kind.Kind Span → List ℕ
 kindRow (kind.midi channel message) = midiRow channel message
 kindRow (kind.sysEx p) = rowLoad 0xF0 0 p
 kindRow (kind.escape p) = rowLoad 0xF7 0 p
 kindRow (kind.meta m) = metaRow m
 
+-- the row of an event: the delta first
 abbrev pub eventRow : Event Span → List ℕ
 eventRow e = e .delta ∷ kindRow (e .kind)

@@ -184,7 +184,7 @@ module _ (rules : Rules) where
   more-is (suc most) running [] = nothing (suc most) running [] ended refl
   more-is (suc most) running (b ∷ s) = by-event most running (b ∷ s) (more-is most) (readEvent rules running (b ∷ s)) refl
 
-  -- 1, of a running status that is none
+  -- 1, of an invalid running status
   event-none : (running : ℕ) (s : List ℕ) → isRunning running ≡ false → readEvent rules running s ≡ refused 1 running
   unfolding readEvent nameRaw readRaw
   event-none running s h = rw h

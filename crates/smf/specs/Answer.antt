@@ -33,5 +33,6 @@ strictly rules n a = pick (rules .strict) (refuses n) (gives a)
 abbrev pub strictOf : Rules → Rules
 strictOf rules = record { strict = true }
 
+-- the same rules, read leniently
 abbrev pub leniently : Rules → Rules
 leniently rules = record { strict = false }

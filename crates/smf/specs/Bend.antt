@@ -9,11 +9,11 @@ use lib.Ieee.Exact.{HasValue}
 use Rattle.smf.specs.Answer.{pick, Answer, gives, refuses, andThen}
 use Rattle.smf.specs.Width.{tryWidth}
 
--- the signed bend runs from -8,192 ..
+-- the lowest signed bend, -8,192
 abbrev pub lowest : ℤ
 lowest = negsuc 8191
 
--- .. to 8,191
+-- the highest signed bend, 8,191
 abbrev pub highest : ℤ
 highest = pos 8191
 
@@ -47,17 +47,17 @@ scaled (fin negative m e) = signed negative (min (m * up e) (down e) * 8192 / do
 unfoldable pub rawBendOfFloat : Float → ℕ
 rawBendOfFloat x = rawBend (scaled x)
 
--- to a float: the format's value nearest to the quotient of a signed bend by 8,192 ..
+-- to a float: the format's value nearest to the quotient of a signed bend by 8,192
 unfoldable pub quotient : Format → ℤ → Float
 quotient f (pos n) = round f false n 8192
 quotient f (negsuc n) = round f true (suc n) 8192
 
--- .. which is the quotient itself: finite, of the bend's sign, and exact
+-- that value is the quotient itself: finite, of the bend's sign, and exact
 unfoldable pub IsQuotient : ℤ → Float → Type 0
 IsQuotient (pos n) x = HasValue x false n 8192
 IsQuotient (negsuc n) x = HasValue x true (suc n) 8192
 
--- a bend's value asked as a float: 18 as above
+-- a bend's value asked as a float: 18 where the raw bend is above its width
 unfoldable pub askFloat : Format → ℕ → Answer Float
 askFloat f raw = andThen (askBend raw) (λ z. gives (quotient f z))
 

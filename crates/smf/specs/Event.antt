@@ -21,6 +21,7 @@ pub record Event (P : Type 0) : Type 0 where
   pub delta : ℕ
   pub kind : Kind P
 
+-- the event of a delta and a kind
 abbrev pub event : {P : Type 0} → ℕ → Kind P → Event P
 event delta kind = record { delta = delta; kind = kind }
 
@@ -39,12 +40,14 @@ mapMeta f (keySignature sharps minor) = keySignature sharps minor
 mapMeta f (sequencerSpecific p) = sequencerSpecific (f p)
 mapMeta f (unknown t p) = unknown t (f p)
 
+-- the same of a kind
 unfoldable pub mapKind : {P Q : Type 0} → (P → Q) → Kind P → Kind Q
 mapKind f (midi channel message) = midi channel message
 mapKind f (sysEx p) = sysEx (f p)
 mapKind f (escape p) = escape (f p)
 mapKind f (meta m) = meta (mapMeta f m)
 
+-- the same of an event, whose delta stays what it is
 unfoldable pub mapEvent : {P Q : Type 0} → (P → Q) → Event P → Event Q
 mapEvent f e = event (e .delta) (mapKind f (e .kind))
 
@@ -55,6 +58,7 @@ unfoldable pub named : Taken RawEvent → Answer (Kind (List ℕ)) → Reading (
 named t (gives kind) = reads (taken (event (t .value .delta) kind) (t .rest) (t .running))
 named t (refuses n) = refused n (t .running)
 
+-- a raw event that was read, named; a refusal stays what it is
 unfoldable pub nameRaw : Rules → Reading (Taken RawEvent) → Reading (Taken (Event (List ℕ)))
 nameRaw rules (reads t) = named t (called rules (t .value .raw))
 nameRaw rules (refused n running) = refused n running
@@ -73,6 +77,7 @@ pub record EventAt : Type 0 where
 abbrev pub spanBefore : ℕ → List ℕ → Span
 spanBefore end p = record { start = end - length p; length = length p }
 
+-- an event that was read from a place on, with its payload as a range of the bytes lent
 abbrev pub eventPlaced : List ℕ → ℕ → Taken (Event (List ℕ)) → EventAt
 eventPlaced s at t =
     record {
@@ -107,6 +112,7 @@ messageFits rules (programChange program) = ltb program 128
 messageFits rules (channelAftertouch vel) = ltb vel 128
 messageFits rules (pitchBend raw) = ltb raw 16384
 
+-- the same of a meta message: channels, ports and tempos have widths of their own, an SMPTE time its ranges
 unfoldable pub metaFits : {P : Type 0} → Rules → Meta P → Bool
 metaFits rules (trackNumber n) = ltb n 65536
 metaFits rules noTrackNumber = true
@@ -121,6 +127,7 @@ metaFits rules (keySignature sharps minor) = ltb (mag sharps) 128
 metaFits rules (sequencerSpecific p) = true
 metaFits rules (unknown t p) = true
 
+-- the same of a kind: a channel has four bits
 unfoldable pub kindFits : {P : Type 0} → Rules → Kind P → Bool
 kindFits rules (midi channel message) = ltb channel 16 && messageFits rules message
 kindFits rules (sysEx p) = true
@@ -133,6 +140,7 @@ pub data Carried (P : Type 0) : Type 0 where
   owned : P → Carried P
   untold : ℕ → P → Carried P
 
+-- what a meta message carries
 unfoldable pub metaCarries : {P : Type 0} → Meta P → Carried P
 metaCarries (trackNumber n) = nothing
 metaCarries noTrackNumber = nothing
@@ -147,6 +155,7 @@ metaCarries (keySignature sharps minor) = nothing
 metaCarries (sequencerSpecific p) = owned p
 metaCarries (unknown t p) = untold t p
 
+-- what a kind carries
 unfoldable pub carries : {P : Type 0} → Kind P → Carried P
 carries (midi channel message) = nothing
 carries (sysEx p) = owned p
@@ -159,6 +168,7 @@ loadOr none nothing = none
 loadOr none (owned p) = p
 loadOr none (untold t p) = p
 
+-- what stands for the payload of a kind
 abbrev pub kindLoad : {P : Type 0} → P → Kind P → P
 kindLoad none k = loadOr none (carries k)
 
@@ -181,12 +191,15 @@ misnamed rules size nothing = false
 misnamed rules size (owned p) = false
 misnamed rules size (untold t p) = isNamed rules t (size p)
 
+-- the same of a kind
 abbrev pub kindMisnamed : {P : Type 0} → Rules → (P → ℕ) → Kind P → Bool
 kindMisnamed rules size k = misnamed rules size (carries k)
 
+-- the range that stands for no payload: it is inside any bytes
 abbrev pub noSpan : Span
 noSpan = record { start = 0; length = 0 }
 
+-- how long the payload of a range is
 abbrev pub spanLength : Span → ℕ
 spanLength span = span .length
 
@@ -212,10 +225,12 @@ pub record EventWritten : Type 0 where
   pub written : Written
   pub running : ℕ
 
+-- the running status that a write leaves: the one after the event, or as given where it was refused
 abbrev pub runningLeft : ℕ → ℕ → Answer ℕ → ℕ
 runningLeft before after (gives n) = after
 runningLeft before after (refuses n) = before
 
+-- a write of an event, from the running status before it to the one after it
 abbrev pub eventWritten : ℕ → ℕ → Written → EventWritten
 eventWritten before after w = record { written = w; running = runningLeft before after (w .answer) }
 

@@ -37,6 +37,7 @@ pub data Meta (P : Type 0) : Type 0 where
   sequencerSpecific : P → Meta P
   unknown : ℕ → P → Meta P
 
+-- what stands behind a delta: a channel message with its channel, F0, F7, or a meta message
 pub data Kind (P : Type 0) : Type 0 where
   midi : (channel : ℕ) → Message → Kind P
   sysEx : P → Kind P
@@ -51,6 +52,7 @@ byte p i = getD p i 0 % 256
 unfoldable pub messageOne : ℕ → ℕ → Message
 messageOne upper a = pick (eqb upper 0xC) (programChange a) (channelAftertouch a)
 
+-- the message with two data bytes; a bend is low seven bits first
 unfoldable pub messageTwo : ℕ → ℕ → ℕ → Message
 messageTwo upper a b =
     pick (eqb upper 0x8) (noteOff a b)
@@ -79,9 +81,11 @@ narrow rules limit b = pick (ltb b limit) (gives b) (pick (rules .strict) (refus
 abbrev pub tempoOf : List ℕ → Meta (List ℕ)
 tempoOf p = tempo (byte p 0 * 65536 + byte p 1 * 256 + byte p 2)
 
+-- document 01: 54, the five bytes of an SMPTE time; 13 outside its ranges
 abbrev pub timeIn : Rules → List ℕ → Answer Time
 timeIn rules p = timeOf rules (byte p 0) (byte p 1) (byte p 2) (byte p 3) (byte p 4)
 
+-- SMF: 58, the four bytes of a time signature
 abbrev pub signatureOf : List ℕ → Meta (List ℕ)
 signatureOf p = timeSignature (byte p 0) (byte p 1) (byte p 2) (byte p 3)
 

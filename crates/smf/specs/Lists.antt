@@ -28,9 +28,11 @@ pub record ListTaken : Type 0 where
   pub rest : List ℕ
   pub running : ℕ
 
+-- a list that stops before its first event
 abbrev pub stopsAt : Stop → List ℕ → ℕ → ListTaken
 stopsAt stop rest running = record { events = []; stop = stop; rest = rest; running = running }
 
+-- an event in front of a list
 abbrev pub before : Taken (Event (List ℕ)) → ListTaken → ListTaken
 before t l = record { events = t ∷ l .events; stop = l .stop; rest = l .rest; running = l .running }
 
@@ -54,6 +56,7 @@ readList rules most running s = pick (isRunning running) (readMore rules most ru
 abbrev pub takenEvent : Taken (Event (List ℕ)) → Event (List ℕ)
 takenEvent t = t .value
 
+-- the events of a list that was read
 abbrev pub eventsOf : ListTaken → List (Event (List ℕ))
 eventsOf l = map takenEvent (l .events)
 
@@ -64,9 +67,11 @@ pub record ListAt : Type 0 where
   pub place : ℕ
   pub running : ℕ
 
+-- an event of a list that was read from a place on, with its payload as a range of the bytes lent
 abbrev pub eventFrom : List ℕ → ℕ → Taken (Event (List ℕ)) → Event Span
 eventFrom s at t = eventPlaced s at t .event
 
+-- a list that was read from a place on
 abbrev pub listPlaced : List ℕ → ℕ → ListTaken → ListAt
 listPlaced s at l =
     record {
@@ -93,6 +98,7 @@ pub data Next : Type 0 where
   takes : Event Span → Reader → Next
   stops : Stop → Next
 
+-- one step, by what reading an event answered: on behind it, or stopped by its refusal
 unfoldable pub stepOn : Reader → ReadAt → Next
 stepOn r (readsAt a) = takes (a .event) (record { place = r .place + a .used; running = a .running; count = r .count + 1 })
 stepOn r (refusedAt n used after) = stops (stopped n)
@@ -113,6 +119,7 @@ pub record Held : Type 0 where
 abbrev pub filler : Event Span
 filler = event 0 (meta endOfTrack)
 
+-- document 01: as many records as a list holds, the events first and fillers behind them
 unfoldable pub holding : ℕ → List (Event Span) → Held
 holding most es = record { records = es ++ replicate (most - length es) filler; count = length es }
 
@@ -123,6 +130,7 @@ pub record ListHeld : Type 0 where
   pub place : ℕ
   pub running : ℕ
 
+-- what was read, as a list holds it
 abbrev pub heldAs : ℕ → ListAt → ListHeld
 heldAs most l = record { list = holding most (l .events); stop = l .stop; place = l .place; running = l .running }
 
@@ -142,15 +150,17 @@ pub data Checked : Type 0 where
   allLegal : List (Event (List ℕ)) → Checked
   illegal : (number index : ℕ) → Checked
 
+-- one legal event more in front of what was checked
 unfoldable pub withEvent : Event (List ℕ) → Checked → Checked
 withEvent e (allLegal es) = allLegal (e ∷ es)
 withEvent e (illegal n i) = illegal n i
 
+-- an event and what is behind it: the first that is illegal decides
 unfoldable pub checkOn : ℕ → Answer (Event (List ℕ)) → Checked → Checked
 checkOn i (gives e) others = withEvent e others
 checkOn i (refuses n) others = illegal n i
 
--- counted from i on
+-- the events of a list in their order, whose first has the index i
 unfoldable pub check : ℕ → List (Answer (Event (List ℕ))) → Checked
 check i [] = allLegal []
 check i (j ∷ js) = checkOn i j (check (i + 1) js)
@@ -160,6 +170,7 @@ unfoldable pub encodeList : ℕ → List (Event (List ℕ)) → List ℕ
 encodeList running [] = []
 encodeList running (e ∷ es) = encodeEvent running e ++ encodeList (eventAfter e) es
 
+-- the running status after a list
 unfoldable pub listAfter : ℕ → List (Event (List ℕ)) → ℕ
 listAfter running [] = running
 listAfter running (e ∷ es) = listAfter (eventAfter e) es
@@ -174,9 +185,11 @@ pub record ListSize : Type 0 where
   pub answer : ListAnswer
   pub running : ℕ
 
+-- a list that has no size: the number and the index by which it is refused, and the running status as given
 abbrev pub unsized : ℕ → ℕ → ℕ → ListSize
 unsized running n i = record { answer = refusesAt n i; running = running }
 
+-- the size of a list that was checked
 unfoldable pub sizeChecked : ℕ → Checked → ListSize
 sizeChecked running (allLegal es) = record { answer = wrote (length (encodeList running es)); running = listAfter running es }
 sizeChecked running (illegal n i) = unsized running n i
@@ -205,6 +218,7 @@ listPut running buffer es =
     (record { buffer = over (encodeList running es) buffer 0; answer = wrote (length (encodeList running es)); running = listAfter running es })
     (listLeft running buffer 20 0)
 
+-- what writing a list that was checked leaves
 unfoldable pub writeChecked : ℕ → List ℕ → Checked → ListWritten
 writeChecked running buffer (allLegal es) = listPut running buffer es
 writeChecked running buffer (illegal n i) = listLeft running buffer n i
@@ -227,6 +241,7 @@ pub record Counted : Type 0 where
   pub count : ℕ
   pub events : List (Event (List ℕ))
 
+-- a count and the events of that many records
 abbrev pub counted : List ℕ → List (Event Span) → ℕ → Counted
 counted bytes records count = record { count = count; events = listed bytes records count }
 

@@ -13,6 +13,7 @@ pub record MetaTaken : Type 0 where
   pub message : Meta (List ℕ)
   pub rest : List ℕ
 
+-- a payload that was read, called by its type
 abbrev pub metaNamed : Rules → ℕ → Payload → Answer MetaTaken
 metaNamed rules t p = andThen (calledMeta rules t (p .bytes)) (λ m. gives (record { message = m; rest = p .rest }))
 
@@ -26,8 +27,10 @@ pub record MetaAt : Type 0 where
   pub message : Meta Span
   pub next : ℕ
 
+-- a meta message that was read from a place on
 abbrev pub metaPlaced : List ℕ → ℕ → MetaTaken → MetaAt
 metaPlaced s at t = record { message = mapMeta (spanBefore (placeOf s at (t .rest))) (t .message); next = placeOf s at (t .rest) }
 
+-- the meta message at a place
 unfoldable pub metaAt : Rules → List ℕ → ℕ → Answer MetaAt
 metaAt rules s at = andThen (readMetaMessage rules (drop at s)) (λ t. gives (metaPlaced s at t))

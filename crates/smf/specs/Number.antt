@@ -40,6 +40,7 @@ pub record Numeral : Type 0 where
   pub value : ℕ
   pub rest : List ℕ
 
+-- a value, and the bytes after it
 abbrev pub numeral : ℕ → List ℕ → Numeral
 numeral v rest = record { value = v; rest = rest }
 

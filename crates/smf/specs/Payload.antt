@@ -11,6 +11,7 @@ pub record Payload : Type 0 where
   pub bytes : List ℕ
   pub rest : List ℕ
 
+-- the bytes of a payload, and those after it
 abbrev pub payload : List ℕ → List ℕ → Payload
 payload bytes rest = record { bytes = bytes; rest = rest }
 

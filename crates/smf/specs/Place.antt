@@ -17,6 +17,7 @@ pub record NumberAt : Type 0 where
   pub value : ℕ
   pub next : ℕ
 
+-- a number that was read from a place on
 abbrev pub numberPlaced : List ℕ → ℕ → Numeral → NumberAt
 numberPlaced s at n = record { value = n .value; next = placeOf s at (n .rest) }
 

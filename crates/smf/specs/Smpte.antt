@@ -31,6 +31,7 @@ pub record Time : Type 0 where
   pub subframe : ℕ
   pub rate : ℕ
 
+-- the time of six numbers, the rate last
 abbrev pub time : ℕ → ℕ → ℕ → ℕ → ℕ → ℕ → Time
 time hour minute second frame subframe rate =
     record { hour = hour; minute = minute; second = second; frame = frame; subframe = subframe; rate = rate }

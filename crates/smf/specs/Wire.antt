@@ -21,6 +21,7 @@ pub record RawEvent : Type 0 where
   pub delta : ℕ
   pub raw : Raw
 
+-- the event of a delta and what stands behind it
 abbrev pub rawEvent : ℕ → Raw → RawEvent
 rawEvent delta raw = record { delta = delta; raw = raw }
 
@@ -30,6 +31,7 @@ pub record Taken (A : Type 0) : Type 0 where
   pub rest : List ℕ
   pub running : ℕ
 
+-- what was read, with what it leaves
 abbrev pub taken : {A : Type 0} → A → List ℕ → ℕ → Taken A
 taken value rest running = record { value = value; rest = rest; running = running }
 
@@ -51,6 +53,7 @@ unfoldable pub readOne : ℕ → ℕ → List ℕ → Reading (Taken RawEvent)
 readOne status delta [] = refused 8 status
 readOne status delta (a ∷ s) = pick (ltb a 0x80) (reads (taken (rawEvent delta (one status a)) s status)) (refused 9 status)
 
+-- two data bytes: 8 where not both are there, before 9 where one has bit 7 set
 unfoldable pub readTwo : ℕ → ℕ → List ℕ → Reading (Taken RawEvent)
 readTwo status delta [] = refused 8 status
 readTwo status delta (a ∷ []) = refused 8 status
@@ -59,6 +62,7 @@ readTwo status delta (a ∷ b ∷ s) =
     (pick (ltb b 0x80) (reads (taken (rawEvent delta (two status a b)) s status)) (refused 9 status))
     (refused 9 status)
 
+-- the data of a channel status, one byte or two
 unfoldable pub readChannel : ℕ → ℕ → List ℕ → Reading (Taken RawEvent)
 readChannel status delta s = pick (eqb (dataLength status) 1) (readOne status delta s) (readTwo status delta s)
 
@@ -88,6 +92,7 @@ readBody rules running delta (b ∷ s) =
     pick (ltb b 0x80) (pick (eqb running 0) (refused 5 running) (readChannel running delta (b ∷ s)))
     (readStatus rules running delta b s)
 
+-- behind a delta that was read; one that was refused leaves the running status as it was
 unfoldable pub afterDelta : Rules → ℕ → Answer Numeral → Reading (Taken RawEvent)
 afterDelta rules running (gives n) = readBody rules running (n .value) (n .rest)
 afterDelta rules running (refuses m) = refused m running
@@ -110,5 +115,6 @@ runningAfter (two status a b) = status
 runningAfter (system status p) = 0
 runningAfter (typed t p) = 0
 
+-- the shortest bytes of a raw event
 unfoldable pub encodeRawEvent : ℕ → RawEvent → List ℕ
 encodeRawEvent running e = encodeNumber (e .delta) ++ encodeRaw running (e .raw)

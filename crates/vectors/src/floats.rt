@@ -9,7 +9,7 @@ pub fn single(bits: u32) -> f32 {
     }
 }
 
-// The same of a float of 64 bits.
+// The float of 64 bits of a pattern; of a NaN's, a NaN.
 pub fn double(bits: u64) -> f64 {
     if 0x7FF0_0000_0000_0000 < bits % 0x8000_0000_0000_0000 {
         0.0 / 0.0

@@ -62,7 +62,7 @@ fn answered(given: Given, bytes: &[u8], cells: &mut [u64; CELLS]) -> usize {
     }
 }
 
-// The same of numbers alone, and of lists and records.
+// What the other letters ask: numbers alone, lists, and records.
 fn besides(given: Given, bytes: &[u8], cells: &mut [u64; CELLS]) -> usize {
     let letter = given.letter;
     match letter {

@@ -13,10 +13,12 @@ use Rattle.write.specs.declared.answer.ListLength.the-variants as long
 use Rattle.write.specs.declared.answer.WroteList.{WroteList}
 use Rattle.write.specs.declared.answer.WroteList.the-variants as told
 
+-- what each case of a measured list says
 abbrev pub sizeSaid : ListLength → ListSize
 sizeSaid (long.Length s) = record { answer = wrote (s .length); running = s .running .status }
 sizeSaid (long.Refused n) = unsized (n .running .status) (numberOf (n .refusal)) (n .index)
 
+-- what each case of a written list says, with the buffer at the end
 abbrev pub wroteList : WroteList → List ℕ → ListWritten
 wroteList (told.Length s) buffer = record { buffer = buffer; answer = wrote (s .length); running = s .running .status }
 wroteList (told.Refused n) buffer = listLeft (n .running .status) buffer (numberOf (n .refusal)) (n .index)

@@ -49,9 +49,11 @@ channelRaw c = pick (c .pair) (wire.two (c .status) (c .a) (c .b)) (wire.one (c 
 abbrev pub ownOf : ℕ → ℕ → ℕ → ℕ → ℕ → ℕ → Own
 ownOf n a b c d e = record { n = n; a = a; b = b; c = c; d = d; e = e }
 
+-- its five bytes
 abbrev pub ownList : Own → List ℕ
 ownList own = own .a ∷ own .b ∷ own .c ∷ own .d ∷ own .e ∷ []
 
+-- those of them that count
 abbrev pub ownBytes : Own → List ℕ
 ownBytes own = take (own .n) (ownList own)
 
@@ -78,10 +80,12 @@ abbrev pub madeSaid : List ℕ → Made → Answer wire.Raw
 madeSaid bytes (made.Raw r) = pick (isSound bytes r) (gives (wireOf bytes r)) (refuses 0)
 madeSaid bytes (made.Refused n) = refuses (numberOf n)
 
+-- what looking for a payload says
 abbrev pub lookedSaid : Looked → Answer (Unit {0})
 lookedSaid looked.There = gives tt
 lookedSaid (looked.Refused n) = refuses (numberOf n)
 
+-- what a door says: the raw event, or the number that forbids it
 abbrev pub judgedSaid : List ℕ → Judged → Answer wire.RawEvent
 judgedSaid bytes (judged.Raw e) =
     pick (ltb (e .delta .0) (2 ^ 28) && isSound bytes (e .raw)) (gives (rawEvent (e .delta .0) (wireOf bytes (e .raw)))) (refuses 0)
@@ -93,6 +97,7 @@ judgedSaid bytes (judged.Refused n) = refuses (numberOf n)
 abbrev pub statusBytes : ℕ → ℕ → List ℕ
 statusBytes running status = pick (eqb running status) [] (status ∷ [])
 
+-- the data bytes of a channel message
 abbrev pub dataBytes : Channel → List ℕ
 dataBytes c = pick (c .pair) (c .a ∷ c .b ∷ []) (c .a ∷ [])
 
@@ -100,6 +105,7 @@ dataBytes c = pick (c .pair) (c .a ∷ c .b ∷ []) (c .a ∷ [])
 abbrev pub loadLength : ℕ → ℕ
 loadLength n = length (encodeNumber n) + n
 
+-- how many bytes a raw form has behind its delta
 unfoldable pub rawLength : ℕ → Raw → ℕ
 rawLength running (raw.Channel c) = length (statusBytes running (c .status)) + pick (c .pair) 2 1
 rawLength running (raw.System status load) = 1 + loadLength (load .length)

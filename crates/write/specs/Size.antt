@@ -18,21 +18,24 @@ pub record Size : Type 0 where
   pub length : ℕ
   pub running : ℕ
 
+-- a length and the running status after it
 abbrev pub size : ℕ → ℕ → Size
 size length running = record { length = length; running = running }
 
+-- what a value of the code says
 abbrev pub sizeOf : answer.Size → Size
 sizeOf s = size (s .length) (s .running .status)
 
+-- what each case of a measured event says
 abbrev pub lengthSaid : EventLength → Answer Size
 lengthSaid (event.Length s) = gives (sizeOf s)
 lengthSaid (event.Refused n) = refuses (numberOf n)
 
--- of a raw event, from a running status
+-- the size of a raw event, from a running status
 abbrev pub rawSize : ℕ → RawEvent → Size
 rawSize running e = size (length (encodeRawEvent running e)) (runningAfter (e .raw))
 
--- of an event as it was judged
+-- the size of an event as it was judged; the number that forbids one stays what it is
 unfoldable pub sizeJudged : ℕ → Answer (Event (List ℕ)) → Answer Size
 sizeJudged running judged = andThen (rawJudged judged) (λ raw. gives (rawSize running raw))
 

@@ -9,6 +9,7 @@ use Rattle.base.specs.Refusal.{numberOf}
 use Rattle.write.specs.declared.answer.WroteEvent.{WroteEvent}
 use Rattle.write.specs.declared.answer.WroteEvent.the-variants as wrote
 
+-- what each case of a written event says, with the buffer at the end
 abbrev pub wroteEvent : WroteEvent → List ℕ → EventWritten
 wroteEvent (wrote.Next p) buffer =
     record { written = record { buffer = buffer; answer = gives (p .next) }; running = p .running .status }
