@@ -7,3 +7,4 @@ pub mod RowCells
 pub mod CellsFit
 pub mod IdenticalLists
 pub mod RowsKept
+pub mod Copying

@@ -1,52 +1,25 @@
--- `row_at` meets its contract. The invariant: the first i cells of the row are those from the place on.
-use mathlib.Core.List.{List}
-use mathlib.Core.Path.{_≡_, sym, ap, _∙_}
-use Prim.Native.Nat.{ℕ, _≤_, _-_}
-use native.Mathlib.Nat.{zero-add}
-use native.Mathlib.Numerals.{add-one}
-use native.Mathlib.Omega.{arith}
+-- `row_at` meets its contract. The invariant: the cells so far are copied.
+use Prim.Native.Nat.{_-_}
 use borrow.Author.Needs.{needs}
-use lib.ListN.{length, take, drop, set, getD, replicate, length-drop}
-use lib.Seq.{paste, paste-zero, paste-suc, length-paste, take-paste, take-length, getD-drop}
 use Rattle.rows.specs.Rows.{width}
+use Rattle.rows.proofs.Copying.{Copied, copied-first, copied-more, copied-all}
 use Rattle.rows.proofs.back.row_at.Statement.{statement}
 use Rattle.rows.proofs.back.row_at.Tie as tie
 
--- the row before its first cell
-abbrev noughts : List ℕ
-noughts = replicate width 0
-
 abbrev Inv-loop : tie.InvT-loop
-Inv-loop cells at row₀ i₀ row i = (i ≤ width) × (row ≡ paste row₀ 0 (drop at cells) i)
+Inv-loop cells at row₀ i₀ row i = Copied cells at row i
 
 abbrev μ-loop : tie.MeasureT-loop
 μ-loop cells at row₀ i₀ row i = width - i
 
 loop-holds : tie.Need-loop-holds Inv-loop μ-loop
-loop-holds c = (omega arith, paste-zero noughts 0 (drop (c .args .at) (c .args .cells .now)))
+loop-holds c = copied-first _ _
 
 loop-again : tie.Need-loop-again Inv-loop μ-loop
-loop-again c =
-    let l = c .before .before .loop in
-    let a = c .before .before .before .args in
-    let s = drop (a .at) (a .cells .now) in (
-      omega arith,
-      rw (add-one (l .i), l .inv .1, ← getD-drop (a .at) (a .cells .now) (l .i) 0)
-          (ap (λ (k : ℕ). set (paste noughts 0 s (l .i)) k (getD s (l .i) 0)) (sym (zero-add (l .i))) ∙ paste-suc noughts 0 s (l .i) 0 (omega arith) (omega (arith, length-drop (a .at) (a .cells .now)))),
-    )
+loop-again c = let l = c .before .before in copied-more _ _ (l .before .pre) (l .loop .inv) (c .before .loop-test .taken)
 
 returns : tie.Need-returns Inv-loop μ-loop
-returns c =
-    let l = c .before .loop in
-    let a = c .before .before .args in
-    let s = drop (a .at) (a .cells .now) in
-    let all : l .i ≡ width = omega arith in
-    let long : length (l .row) ≡ width = ap length (l .inv .1) ∙ length-paste noughts 0 s (l .i) (omega arith) (omega (arith, length-drop (a .at) (a .cells .now))) in
-    let whole : take width (l .row) ≡ l .row = ap (λ (n : ℕ). take n (l .row)) (sym long) ∙ take-length (l .row) in
-    sym whole
-    ∙ ap (λ (r : List ℕ). take width r) (l .inv .1)
-    ∙ ap (λ (n : ℕ). take width (paste noughts 0 s n)) all
-    ∙ take-paste noughts 0 s width (omega arith) (omega (arith, length-drop (a .at) (a .cells .now)))
+returns c = copied-all _ _ (c .before .before .pre) (c .before .loop .inv) (c .loop-test .left)
 
 pub row-at-spec : {M : Type 1} → statement M
 row-at-spec =
