@@ -55,7 +55,7 @@ module _ (rules : Rules) (most running : ℕ) where
         (count ≤ most) × ((es : List (Event (List ℕ))) × (take count judged ≡ map gives es)
         × ((s : List ℕ) × (length s ≤ length buffer) × ReadsStrictly es s × (CarryBytes es → Bytes s)))
 
-    -- the same of a byte string, every element of it below 256
+    -- what fits is a byte string: every element of it is below 256
     abbrev pub FitsAsBytes : Type 0
     FitsAsBytes =
         (es : List (Event (List ℕ))) × (take count judged ≡ map gives es) × ((s : List ℕ) × (length s ≤ length buffer) × ReadsStrictly es s × Bytes s)

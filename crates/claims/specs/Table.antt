@@ -24,7 +24,7 @@ abbrev pub By : {A : Type 0} → List ℕ → Answer A → Type 0
 By ns (gives a) = Unit {0}
 By ns (refuses n) = OneOf ns n
 
--- the same of a write; where it is refused, the buffer is at the end what it was
+-- a write that gives a value, or refuses by one of these numbers and leaves the buffer as it was
 abbrev pub Keeps : {A B : Type 0} → List ℕ → Answer A → B → B → Type 0
 Keeps ns (gives a) before after = Unit {0}
 Keeps ns (refuses n) before after = OneOf ns n × (after ≡ before)

@@ -29,7 +29,7 @@ pub record Rules : Type 0 where
 abbrev pub strictly : {A : Type 0} → Rules → ℕ → A → Answer A
 strictly rules n a = pick (rules .strict) (refuses n) (gives a)
 
--- the same rules, read strictly; and leniently
+-- the same rules, read strictly
 abbrev pub strictOf : Rules → Rules
 strictOf rules = record { strict = true }
 

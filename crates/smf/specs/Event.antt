@@ -25,7 +25,7 @@ pub record Event (P : Type 0) : Type 0 where
 abbrev pub event : {P : Type 0} → ℕ → Kind P → Event P
 event delta kind = record { delta = delta; kind = kind }
 
--- the same kind over something else for a payload
+-- a meta message with something else standing for its payload
 unfoldable pub mapMeta : {P Q : Type 0} → (P → Q) → Meta P → Meta Q
 mapMeta f (trackNumber n) = trackNumber n
 mapMeta f noTrackNumber = noTrackNumber
@@ -40,14 +40,14 @@ mapMeta f (keySignature sharps minor) = keySignature sharps minor
 mapMeta f (sequencerSpecific p) = sequencerSpecific (f p)
 mapMeta f (unknown t p) = unknown t (f p)
 
--- the same of a kind
+-- a kind with something else standing for its payload
 unfoldable pub mapKind : {P Q : Type 0} → (P → Q) → Kind P → Kind Q
 mapKind f (midi channel message) = midi channel message
 mapKind f (sysEx p) = sysEx (f p)
 mapKind f (escape p) = escape (f p)
 mapKind f (meta m) = meta (mapMeta f m)
 
--- the same of an event, whose delta stays what it is
+-- an event with something else standing for its payload; its delta stays what it is
 unfoldable pub mapEvent : {P Q : Type 0} → (P → Q) → Event P → Event Q
 mapEvent f e = event (e .delta) (mapKind f (e .kind))
 
@@ -112,7 +112,7 @@ messageFits rules (programChange program) = ltb program 128
 messageFits rules (channelAftertouch vel) = ltb vel 128
 messageFits rules (pitchBend raw) = ltb raw 16384
 
--- the same of a meta message: channels, ports and tempos have widths of their own, an SMPTE time its ranges
+-- whether the fields of a meta message are within their widths, and an SMPTE time within its ranges
 unfoldable pub metaFits : {P : Type 0} → Rules → Meta P → Bool
 metaFits rules (trackNumber n) = ltb n 65536
 metaFits rules noTrackNumber = true
@@ -127,7 +127,7 @@ metaFits rules (keySignature sharps minor) = ltb (mag sharps) 128
 metaFits rules (sequencerSpecific p) = true
 metaFits rules (unknown t p) = true
 
--- the same of a kind: a channel has four bits
+-- whether the fields of a kind are within their widths: a channel has four bits
 unfoldable pub kindFits : {P : Type 0} → Rules → Kind P → Bool
 kindFits rules (midi channel message) = ltb channel 16 && messageFits rules message
 kindFits rules (sysEx p) = true
@@ -191,7 +191,7 @@ misnamed rules size nothing = false
 misnamed rules size (owned p) = false
 misnamed rules size (untold t p) = isNamed rules t (size p)
 
--- the same of a kind
+-- whether a kind is an `Unknown` that would be read as another, or be refused
 abbrev pub kindMisnamed : {P : Type 0} → Rules → (P → ℕ) → Kind P → Bool
 kindMisnamed rules size k = misnamed rules size (carries k)
 

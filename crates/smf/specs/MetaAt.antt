@@ -22,7 +22,7 @@ unfoldable pub readMetaMessage : Rules → List ℕ → Answer MetaTaken
 readMetaMessage rules [] = refuses 10
 readMetaMessage rules (t ∷ s) = andThen (readPayload rules s) (metaNamed rules t)
 
--- the same at a place: its payload as start and length in the bytes lent, and the place after it
+-- a meta message that was read at a place: its payload as start and length in the bytes lent, and the place after it
 pub record MetaAt : Type 0 where
   pub message : Meta Span
   pub next : ℕ

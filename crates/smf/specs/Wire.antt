@@ -44,7 +44,7 @@ pub data Reading (A : Type 0) : Type 0 where
 unfoldable pub dataLength : ℕ → ℕ
 dataLength status = pick (eqb (status / 16) 0xC) 1 (pick (eqb (status / 16) 0xD) 1 2)
 
--- the same over every status byte, by its upper half: 0 for those that are no channel status
+-- how many data bytes any status byte takes, by its upper half: 0 for those that are no channel status
 unfoldable pub tableLength : ℕ → ℕ
 tableLength status = pick (ltb (status / 16) 0x8) 0 (pick (ltb (status / 16) 0xF) (dataLength status) 0)
 

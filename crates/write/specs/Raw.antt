@@ -49,11 +49,11 @@ channelRaw c = pick (c .pair) (wire.two (c .status) (c .a) (c .b)) (wire.one (c 
 abbrev pub ownOf : ℕ → ℕ → ℕ → ℕ → ℕ → ℕ → Own
 ownOf n a b c d e = record { n = n; a = a; b = b; c = c; d = d; e = e }
 
--- its five bytes
+-- the five bytes of a payload of its own
 abbrev pub ownList : Own → List ℕ
 ownList own = own .a ∷ own .b ∷ own .c ∷ own .d ∷ own .e ∷ []
 
--- those of them that count
+-- the bytes of it that count
 abbrev pub ownBytes : Own → List ℕ
 ownBytes own = take (own .n) (ownList own)
 

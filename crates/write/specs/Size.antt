@@ -39,6 +39,6 @@ rawSize running e = size (length (encodeRawEvent running e)) (runningAfter (e .r
 unfoldable pub sizeJudged : ℕ → Answer (Event (List ℕ)) → Answer Size
 sizeJudged running judged = andThen (rawJudged judged) (λ raw. gives (rawSize running raw))
 
--- the same from a running status that is looked at first: 1 where it is invalid
+-- the size of an event from a running status that is looked at first: 1 where it is invalid
 unfoldable pub sizeEvent : ℕ → Answer (Event (List ℕ)) → Answer Size
 sizeEvent running judged = pick (isRunning running) (sizeJudged running judged) (refuses 1)
