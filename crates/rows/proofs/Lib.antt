@@ -8,3 +8,5 @@ pub mod CellsFit
 pub mod IdenticalLists
 pub mod RowsKept
 pub mod Copying
+pub mod LaidRow
+pub mod RowsOn

@@ -44,6 +44,15 @@ sheet-one e = append-nil (eventRow e)
 sheet-next : (es : List (Event Span)) (e : Event Span) → sheetOf (es ++ (e ∷ [])) ≡ sheetOf es ++ eventRow e
 sheet-next es e = sheet-append es (e ∷ []) ∙ ap (λ (l : List ℕ). sheetOf es ++ l) (sheet-one e)
 
+-- a row put behind those that stand in front
+pub sheet-over : (es : List (Event Span)) (e : Event Span) (before : List ℕ) (n : ℕ) → length es ≡ n
+    → over (eventRow e) (over (sheetOf es) before 0) (n * width) ≡ over (sheetOf (es ++ (e ∷ []))) before 0
+sheet-over es e before n counted =
+    let behind : n * width ≡ 0 + length (sheetOf es) = omega (arith, sheet-length es) in
+    ap (over (eventRow e) (over (sheetOf es) before 0)) behind
+    ∙ over-over (sheetOf es) (eventRow e) before 0 (omega arith)
+    ∙ ap (λ (l : List ℕ). over l before 0) (sym (sheet-next es e))
+
 -- what is left where nothing is read
 pub unread : (cap : ℕ) (rules : Rules) (s : List ℕ) (at first : ℕ) (cells : List ℕ) → isRunning first ≡ false
     → record { cells = cells; answer = gives (record { count = 0; stop = stopped 1; place = at; running = first }) } ≡ readSheet (listAt rules cap first s at) cells
@@ -81,15 +90,11 @@ module _ {cap : ℕ} {rules : Rules} {s : List ℕ} {at first : ℕ} {before out
 
       pub laying-more : (end : List ℕ) → end ≡ over (eventRow (eventOf (step .event))) out (r .count * width) → Laying cap rules s at first before end (readerOf (step .cursor))
       laying-more end put =
-          let own = eventRow (eventOf (step .event)) in
-          let behind : r .count * width ≡ 0 + length (sheetOf (g .events)) = omega (arith, front) in
           record {
             events = g .events ++ (eventOf (step .event) ∷ []);
             sofar = again (g .sofar) n there step e;
             rows =
                 put
-                ∙ ap (λ (k : ℕ). over own out k) behind
-                ∙ ap (λ (l : List ℕ). over own l (0 + length (sheetOf (g .events)))) (g .rows)
-                ∙ over-over (sheetOf (g .events)) own before 0 (omega arith)
-                ∙ ap (λ (l : List ℕ). over l before 0) (sym (sheet-next (g .events) (eventOf (step .event))));
+                ∙ ap (λ (l : List ℕ). over (eventRow (eventOf (step .event))) l (r .count * width)) (g .rows)
+                ∙ sheet-over (g .events) (eventOf (step .event)) before (r .count) (g .sofar .counted);
           }

@@ -3,7 +3,7 @@ use mathlib.Core.Path.{sym, ap, _∙_}
 use native.Mathlib.Omega.{arith}
 use Rattle.rows.specs.RowAnswer.{rowAnswer}
 use Rattle.rows.proofs.IsRow.{is-event, is-none}
-use Rattle.same.proofs.RowsLeft.{Looked, looked-first, looked-none, looked-more, looked-last}
+use Rattle.rows.proofs.RowsOn.{Looked, looked-first, looked-none, looked-more, looked-last}
 use borrow.Author.Needs.{needs}
 use Rattle.same.proofs.of_rows.are_rows.Statement.{statement}
 use Rattle.same.proofs.of_rows.are_rows.Tie as tie
