@@ -1,4 +1,4 @@
-/* Apkarewe: reading and writing the events of MIDI tracks, for C and C++.
+/* Apkarewe: reading and writing the events of MIDI tracks, and which of their notes still sound, for C and C++.
  *
  * To build. `tools/native apkarewe.o` proves the entries and writes them as one object file for the machine at hand,
  * x86-64 or aarch64; link it with your program, gcc -Iinclude program.c apkarewe.o. Only 64-bit little-endian machines:
@@ -6,12 +6,13 @@
  * back.
  *
  * What it needs. No heap, no files, nothing of libc but memcpy, memmove and memset. Nothing is kept between calls, so
- * that calls from several threads do not meet. The stack, read off the machine code for x86-64 by tools/stack: 10.6 KB
- * for apk_list_read, under half a KB for each of the rest, beside what memcpy and its kind take.
+ * that calls from several threads do not meet. The stack, read off the machine code for x86-64 by tools/stack: 19.7 KB
+ * for apk_sounding_silence, 16.7 KB for apk_sounding_after, 10.6 KB for apk_list_read, 4.4 KB for apk_sounding_counts,
+ * under half a KB for each of the rest, beside what memcpy and its kind take.
  *
  * What an entry answers. A uint8_t: 0 where it accepts, else the number of a refusal (enum apk_answer). An entry that
- * refuses nothing answers its value. After a refusal every value and every byte that was lent is as it came, unless
- * the entry says otherwise.
+ * refuses nothing answers its value, or nothing where it only fills what it is lent. After a refusal every value and
+ * every byte that was lent is as it came, unless the entry says otherwise.
  *
  * Pointers. A slice is a pointer and a length in elements. A pointer is never NULL, also not where the length is 0.
  * What an entry may write overlaps with nothing else that the same call is lent. `rules` is a set of bits,
@@ -25,11 +26,11 @@
  * the slices only, its answer is the one that its definition gives, and so is what each lent value and each lent byte
  * holds at the end, after a refusal too. The definition is named with each entry: smf.Lists.listAt is listAt in
  * crates/smf/specs/Lists.antt. Those of smf are written from Standard MIDI Files 1.0 and from the project's rules
- * (docs/RULES.md), not from the code; those of loader, loader_track, rows, same and write say how C sees an event, and
- * are made of them. Proved of the definitions: what is written is read back, strictly and leniently,
- * whatever follows it; every event that is read is legal; no bytes that are read strictly as an event are shorter than
- * those that are written for it. Not proved, but compared in runs: that midly 0.5.3 answers alike, see
- * docs/DIFFERENCES.md.
+ * (docs/RULES.md), those of player from the rules, and none from the code; those of loader, loader_track, rows, same
+ * and write, and player.Entries, say how C sees an event or a table, and are made of them. Proved of the definitions:
+ * what is written is read back, strictly and leniently, whatever follows it; every event that is read is legal; no
+ * bytes that are read strictly as an event are shorter than those that are written for it. Not proved, but compared in
+ * runs: that midly 0.5.3 answers alike, see docs/DIFFERENCES.md.
  * Assumed: Rattle's prover and compiler, LLVM, and that the caller keeps to "Pointers" above. */
 #ifndef APKAREWE_H
 #define APKAREWE_H
@@ -69,12 +70,14 @@ enum apk_answer {
     APK_NO_SUCH_RATE = 16,        /* a number is no rate of SMPTE times */
     APK_HEADER_FIELD_SHORT = 17,  /* a header field has under two bytes */
     APK_ABOVE_WIDTH = 18,         /* written: a restricted field is above its width, or an SMPTE time outside its
-                                     ranges; also a bend's value asked of a number above its width */
+                                     ranges; also a bend's value asked of a number above its width; of a table: a delta
+                                     or restricted field of a list, or a channel or key asked for, above its width */
     APK_PAYLOAD_OUTSIDE = 19,     /* written: a payload's range is not inside the payload bytes; a start beyond their
                                      end counts even at length 0 */
-    APK_NO_ROOM = 20,             /* written: there is no room; apk_list_read alone: the cells are too few for the rows
-                                     read */
-    APK_TOO_MANY_EVENTS = 21,     /* written: the count is above what a list holds, APK_LIST_ROWS */
+    APK_NO_ROOM = 20,             /* written: there is no room; apk_list_read and apk_sounding_silence alone: the cells
+                                     are too few for the rows */
+    APK_TOO_MANY_EVENTS = 21,     /* written: the count is above what a list holds, APK_LIST_ROWS; also of a list that
+                                     is put into a table */
     APK_PAYLOAD_TOO_LONG = 22,    /* written: a payload is above 268,435,455 bytes */
     APK_UNKNOWN_NAMED = 23,       /* written: an Unknown that would be read as a named kind, or refused as a short key
                                      signature */
@@ -98,6 +101,9 @@ enum apk_cell {
 
 /* A list is at most so many rows, one behind the other, from the first cell on. */
 enum { APK_LIST_ROWS = 128, APK_LIST_CELLS = APK_LIST_ROWS * APK_CELLS };
+
+/* A table of velocities is so many channels by so many keys, a byte each. */
+enum { APK_CHANNELS = 16, APK_KEYS = 128, APK_TABLE_BYTES = APK_CHANNELS * APK_KEYS };
 
 /* The kinds: a channel message by the upper half of its status, a meta message by 0x100 and its type. */
 enum apk_kind {
@@ -202,6 +208,39 @@ uint8_t apk_event_write(const uint64_t row[APK_CELLS], const uint8_t *payload, s
  * Definition: smf.Event.Same, asked by same.OfRows.rowsAsked. */
 uint8_t apk_event_same(const uint64_t row_a[APK_CELLS], const uint8_t *bytes_a, size_t bytes_a_len,
                        const uint64_t row_b[APK_CELLS], const uint8_t *bytes_b, size_t bytes_b_len, uint8_t *same);
+
+/* Notes still sounding ------------------------------------------------------------------------------------------- */
+/* What a device holds on: a table has the velocity of each key of each channel, that of channel c and key k in the byte
+ * APK_KEYS * c + k. A key sounds where its byte is not 0, and a byte above 127 is not 0 either: every table gets an
+ * answer. A fresh table is all 0, as memset makes it. The caller keeps it, and lends it with each list of a track in
+ * turn: two lists one after the other leave what their events leave together. */
+
+/* Puts so many rows into a table: each byte becomes the velocity of the last note message for its channel and key, 0
+ * where that is an APK_NOTE_OFF, and stays where there is none. An APK_NOTE_ON of velocity 0 leaves 0, which is its
+ * velocity. Aftertouch, and every other kind, changes nothing.
+ *   rows, cells  the rows; those past the count are not looked at
+ *   table        the table, changed in place; as it came after a refusal
+ * Refuses 21, then 18 where any of the rows has a delta or a restricted field above its width (a channel, key,
+ * velocity, controller, value, program, bend, port or tempo), or is no event's, as for apk_list_length. An SMPTE time
+ * outside its ranges and a payload's start and length are not looked at.
+ * Definition: player.Notes.tableAfter of the rows' events, which are accepted by player.Entries.rowsAccepted. */
+uint8_t apk_sounding_after(const uint64_t *rows, size_t cells, size_t count, uint8_t table[APK_TABLE_BYTES]);
+
+/* How many keys of each channel sound, 0 to APK_KEYS. Refuses nothing, and answers nothing.
+ * Definition: player.Sounding.counts. */
+void apk_sounding_counts(const uint8_t table[APK_TABLE_BYTES], uint8_t sounding[APK_CHANNELS]);
+
+/* The list that silences a table: an APK_NOTE_OFF with delta 0 and velocity 0 for each sounding key, by channel, then
+ * key, from a channel and key on, that key included; the first APK_LIST_ROWS of them. The table stays as it is.
+ *   rows, cells  where the rows go, from rows[0] on; APK_LIST_CELLS cells are always enough. Cells behind the rows stay
+ *   count        how many rows. Where there are APK_LIST_ROWS, more keys may sound: ask again from the key behind the last
+ *                one named, which is key 0 of the next channel behind key 127. Behind channel 15, key 127 nothing is left
+ *                to ask for
+ * Refuses 18 where the channel is above 15 or the key above 127, then 20 where the cells are too few for the rows; then
+ * there is no row: count is 0, and every cell is as it came.
+ * Definition: player.Sounding.silence, laid out by rows.Sheet.sheetOf. */
+uint8_t apk_sounding_silence(const uint8_t table[APK_TABLE_BYTES], uint8_t channel, uint8_t key,
+                             uint64_t *rows, size_t cells, size_t *count);
 
 /* Numbers and payloads ------------------------------------------------------------------------------------------- */
 

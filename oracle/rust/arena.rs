@@ -17,6 +17,7 @@ mod reads;
 mod report;
 mod shrink;
 mod sizes;
+mod sounding;
 mod strings;
 mod vectors;
 mod writing;
@@ -35,8 +36,8 @@ impl Arena {
     }
 
     /// Compares one module of the port with this build of the Rust: MODULE [--full] [--seed N]; or lists standard
-    /// input as the Rust reads it: list; or prints answers to be stored: vectors. Answers the exit status: 0 where
-    /// nothing differs.
+    /// input as the Rust reads it: list; or says what still sounds of it: sounds; or prints answers to be stored:
+    /// vectors. Answers the exit status: 0 where nothing differs.
     pub fn compare(words: impl Iterator<Item = String>) -> i32 {
         let (mut module, mut full, mut seed) = (None, false, 1);
         let mut words = words;
@@ -59,7 +60,9 @@ impl Arena {
             Some("writing") => writing::run,
             Some("lists") => lists::run,
             Some("listing") => listing::run,
+            Some("sounding") => sounding::run,
             Some("list") => return listing::list(),
+            Some("sounds") => return sounding::sounds(),
             Some("vectors") => return vectors::print(),
             _ => return usage(),
         };
@@ -75,6 +78,6 @@ impl Arena {
 }
 
 fn usage() -> i32 {
-    eprintln!("usage: MODULE [--full] [--seed N], where MODULE is: numbers, header, bends, events, writing, lists, listing; or: list; or: vectors");
+    eprintln!("usage: MODULE [--full] [--seed N], where MODULE is: numbers, header, bends, events, writing, lists, listing, sounding; or: list; or: sounds; or: vectors");
     2
 }

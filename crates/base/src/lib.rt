@@ -41,13 +41,13 @@ pub enum Refusal {
     // 17: a header field has under two bytes
     HeaderFieldShort,
     // 18, written: a restricted field is above its width, or an SMPTE time outside its ranges; also a number above its width
-    // of which a restricted one is to be made
+    // of which a restricted one is to be made, and a field of a list that is put into a table
     AboveWidth,
     // 19, written: a payload's range is not inside the payload bytes
     PayloadOutside,
-    // 20, written: there is no room
+    // 20, written: there is no room; also where cells are too few for the rows that are handed out
     NoRoom,
-    // 21, written: the count is above what a list holds
+    // 21, written: the count is above what a list holds; also of a list that is put into a table
     TooManyEvents,
     // 22, written: a payload is above 268,435,455 bytes
     PayloadTooLong,

@@ -12,6 +12,7 @@ use Rattle.claims.proofs.Point1.{point-1}
 use Rattle.claims.proofs.Point2.{point-2}
 use Rattle.claims.proofs.Point3.{writes}
 use Rattle.claims.proofs.Point3Calls.{point-3}
+use Rattle.claims.proofs.Sounding.{sounding}
 use Rattle.claims.proofs.SmfForms.{smf-forms}
 use Rattle.claims.proofs.Literals.{literals}
 
@@ -33,4 +34,5 @@ all =
       writes = writes;
       smf-forms = smf-forms;
       literals = literals;
+      sounding = sounding;
     }

@@ -14,6 +14,8 @@ use Rattle.number.specs.Payload.{sliceRead}
 use Rattle.base.specs.declared.Rules.{Rules}
 use Rattle.base.specs.declared.Running.{Running}
 use Rattle.base.specs.declared.Range.{Range}
+use Rattle.base.specs.declared.u4.{u4}
+use Rattle.base.specs.declared.u7.{u7}
 use Rattle.number.specs.declared.u28.{u28}
 use Rattle.number.specs.declared.varlen.ReadNumber.{ReadNumber}
 use Rattle.number.specs.declared.payload.ReadSlice.{ReadSlice}
@@ -23,7 +25,7 @@ use Rattle.meta.specs.declared.ReadMeta.{ReadMeta}
 use Rattle.event.specs.Event.{eventOf, eventRead}
 use Rattle.event.specs.declared.TrackEvent.{TrackEvent}
 use Rattle.event.specs.declared.read.ReadEvent.{ReadEvent}
-use Rattle.track.specs.List.{capacity, recordOf}
+use Rattle.track.specs.List.{capacity, recordOf, heldOf}
 use Rattle.track.specs.Read.{listRead}
 use Rattle.track.specs.declared.list.EventList.{EventList}
 use Rattle.track.specs.declared.read.ReadList.{ReadList}
@@ -34,7 +36,11 @@ use Rattle.write.specs.ListAnswers.{sizeSaid, wroteList}
 use Rattle.write.specs.declared.answer.WroteEvent.{WroteEvent}
 use Rattle.write.specs.declared.answer.ListLength as measured
 use Rattle.write.specs.declared.answer.WroteList.{WroteList}
-use Rattle.claims.specs.Calls.{first, second, third, fourth, fifth, sixth, ReadU7, WriteVarlen, ReadVarlenSlice, WriteVarlenSlice, MetaMessageRead, TrackEventRead, EventListRead, WriteEvent, WriteRow, ListLength, WriteList, RowsLength, WriteRows}
+use Rattle.player.specs.Table.{Table}
+use Rattle.player.specs.Widths.{accepted}
+use Rattle.player.specs.Sounding as player
+use Rattle.player.specs.Answers.{withNumber, tableBeside, listBeside}
+use Rattle.claims.specs.Calls.{first, second, third, fourth, fifth, sixth, ReadU7, WriteVarlen, ReadVarlenSlice, WriteVarlenSlice, MetaMessageRead, TrackEventRead, EventListRead, WriteEvent, WriteRow, ListLength, WriteList, RowsLength, WriteRows, After, Silence}
 
 pub read-u7 : (Claim : List ℕ → ℕ → Rules → ReadNumber → Type 0)
     → ((raw : List ℕ) (at : ℕ) (rules : Rules) (r : ReadNumber) → numberRead r ≡ numberAt (rulesOf rules) raw at → Claim raw at rules r)
@@ -119,3 +125,15 @@ pub write-rows : (Claim : List ℕ → ℕ → Running → Rules → List ℕ �
     → WriteRows Claim
 write-rows Claim law κs a r e told =
     law (now (first a)) (second a) (third a) (fourth a) (now (fifth a)) (now (sixth a)) r (now (sixth e)) told
+
+pub after : (Claim : Table → EventList → Table → ℕ → Type 0)
+    → ((table : Table) (list : EventList) (left : Table) (number : ℕ)
+    → withNumber left number ≡ tableBeside table (accepted capacity (map recordOf (list .records)) (list .count)) → Claim table list left number)
+    → After Claim
+after Claim law κs a r e told = law (first a) (second a) r (now (third e)) told
+
+pub silence : (Claim : Table → u4 → u7 → EventList → ℕ → Type 0)
+    → ((table : Table) (channel : u4) (key : u7) (list : EventList) (number : ℕ)
+    → withNumber (heldOf list) number ≡ listBeside capacity (player.silence capacity table (channel .0) (key .0)) → Claim table channel key list number)
+    → Silence Claim
+silence Claim law κs a r e told = law (first a) (second a) (third a) r (now (fourth e)) told

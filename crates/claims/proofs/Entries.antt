@@ -1,5 +1,7 @@
 -- Each promise is an equation for the answer and for each lent value: two that it permits are equal to the same.
 use mathlib.Core.Path.{_≡_, refl, sym, ap, _∙_}
+use mathlib.Core.List.{List}
+use Prim.Native.Nat.{ℕ}
 use denote.Ref.{now}
 use Rattle.smf.specs.Answer as smf
 use Rattle.base.specs.Rules.{rulesOf}
@@ -13,9 +15,11 @@ use Rattle.same.specs.OfRows.{rowsAsked, listsAsked}
 use Rattle.rows.proofs.IdenticalLists.{rowsLeft-identical}
 use Rattle.event.proofs.IdenticalRunning.{step-identical}
 use Rattle.loader_track.proofs.Identical.{handed-identical}
+use Rattle.player.specs.Answers.{Beside}
+use Rattle.player.specs.Entries.{CellsLeft}
 use Rattle.claims.specs.Calls.{first, second, third, fourth, fifth, sixth, seventh}
 use Rattle.claims.proofs.Agree.{joined, agree₂, agree₃, agree₄, agree₅}
-use Rattle.claims.specs.Entries.{NumberEntries, HeaderEntries, TimeEntries, BendEntries, EventEntries, ListEntries, Sameness, Sheets, HandedOver, Entries}
+use Rattle.claims.specs.Entries.{NumberEntries, HeaderEntries, TimeEntries, BendEntries, EventEntries, ListEntries, Sameness, SoundingEntries, Sheets, HandedOver, Entries}
 
 rulesOf-injective : {x y : Rules} → rulesOf x ≡ rulesOf y → x ≡ y
 rulesOf-injective e = ap (λ (r : smf.Rules). record { strict = r .strict }) e
@@ -97,6 +101,17 @@ sameness =
           y z (now (seventh a)) (now (seventh d)) (now (seventh e)) p q);
     }
 
+sounding : SoundingEntries
+sounding =
+    record {
+      sounding-after = λ κs a y z d e p q.
+          let same = p ∙ sym q in joined (ap (λ (b : Beside (List ℕ)). b .number) same, ap (λ (b : Beside (List ℕ)). b .value) same);
+      sounding-counts = λ κs a y z d e p q. joined (refl, p ∙ sym q);
+      sounding-silence = λ κs a y z d e p q.
+          let same = p ∙ sym q in
+          joined (ap (λ (c : CellsLeft). c .number) same, joined (ap (λ (c : CellsLeft). c .cells) same, ap (λ (c : CellsLeft). c .count) same));
+    }
+
 sheets : Sheets
 sheets =
     record {
@@ -110,4 +125,4 @@ handed-over =
     }
 
 pub entries : Entries
-entries = record { numbers = numbers; headers = headers; times = times; bends = bends; events = events; lists = lists; sameness = sameness; sheets = sheets; handed-over = handed-over }
+entries = record { numbers = numbers; headers = headers; times = times; bends = bends; events = events; lists = lists; sameness = sameness; sounding = sounding; sheets = sheets; handed-over = handed-over }

@@ -36,15 +36,18 @@ use Rattle.loader.specs.Smpte.{timeGiven, sixOf}
 use Rattle.event.specs.Lent.{readRunning}
 use Rattle.loader_track.specs.Events.{readAnswered, readRow, readUsed}
 use Rattle.loader_track.specs.Lists.{stopNumber, listGiven, readAnswer}
+use Rattle.player.specs.Sounding.{silence}
+use Rattle.player.specs.Entries.{tableIn, rowsAccepted}
 use Rattle.claims.specs.Calls.{first, second, third, fourth, fifth, sixth, seventh, eighth, ninth}
 use Rattle.claims.specs.Table.{among, OneOf, By, ofNumber, ofPayload, ofEvent, ofLength}
 use Rattle.claims.specs.Stands.{statusLeft, EventOrLeft, Why}
 use Rattle.claims.specs.EntrySays.{Outcome, AnswersBy}
-use Rattle.claims.specs.EntryPoint1.{NumberRefusals, FieldRefusals, TimeRefusals, BendRefusals, TrackRefusals, SameRefusals, EntryPoint1}
+use Rattle.claims.specs.EntryPoint1.{NumberRefusals, FieldRefusals, TimeRefusals, BendRefusals, TrackRefusals, SameRefusals, SoundingRefusals, EntryPoint1}
 use Rattle.claims.proofs.Refusals.{allAmong, then-by, by-more, one-of-more, number-at-by, payload-at-by, format-by, rate-by, timing-by, timing-bytes-by, time-by, time-of-by, time-bytes-by, seconds-by, position-by, bend-by, bend-float-by, number-bytes-by, payload-bytes-by, write-keeps, row-by, event-length-by}
 use Rattle.claims.proofs.ReadLeaves.{event-or-left}
 use Rattle.claims.proofs.Stands.{list-stands}
 use Rattle.claims.proofs.EntrySays.{answers, keeps₁, keeps₂, keeps₃, writes}
+use Rattle.claims.proofs.Player.{rows-accepted-by, silence-by, answers-beside, rows-answers}
 use Rattle.claims.proofs.EntryWrites.{event-write, list-length, list-write}
 
 numbers : NumberRefusals
@@ -244,5 +247,15 @@ sameness =
           (lists-asked-by capacity (now (first a)) (second a) (now (fourth a)) (fifth a)) told;
     }
 
+sounding : SoundingRefusals
+sounding =
+    record {
+      sounding-after = λ κs a r e told.
+          answers-beside (18 ∷ 21 ∷ []) (now (third a)) (rowsAccepted capacity (now (first a)) (second a)) _ told (rows-accepted-by capacity (now (first a)) (second a));
+      sounding-silence = λ κs a r e told.
+          let table = tableIn (now (first a)) in
+          rows-answers (silence capacity table (second a) (third a)) (now (fourth a)) (silence-by capacity table (second a) (third a)) told;
+    }
+
 pub entry-point-1 : EntryPoint1
-entry-point-1 = record { numbers = numbers; fields = fields; times = times; bends = bends; tracks = tracks; sameness = sameness }
+entry-point-1 = record { numbers = numbers; fields = fields; times = times; bends = bends; tracks = tracks; sameness = sameness; sounding = sounding }

@@ -1,5 +1,5 @@
 -- No function has a `requires`: what it asks is nothing, of whatever arguments.
-use Rattle.claims.specs.EveryInput.{AnyBase, AnyNumber, AnyHeader, AnyMidi, AnyMeta, AnyEvent, AnyTrack, AnyRows, AnyWrite, AnySame, AnyLoader, AnyLoaderTrack, EveryInput}
+use Rattle.claims.specs.EveryInput.{AnyBase, AnyNumber, AnyHeader, AnyMidi, AnyMeta, AnyEvent, AnyTrack, AnyRows, AnyWrite, AnySame, AnyLoader, AnyLoaderTrack, AnyPlayer, EveryInput}
 
 base : AnyBase
 base =
@@ -110,6 +110,7 @@ track =
       list-new = λ κs a. tt;
       list-read = λ κs a. tt;
       cursor-next = λ κs a. tt;
+      recorded = λ κs a. tt;
     }
 
 rows : AnyRows
@@ -191,5 +192,17 @@ loader-track =
       list-same = λ κs a. tt;
     }
 
+player : AnyPlayer
+player =
+    record {
+      fresh = λ κs a. tt;
+      counts = λ κs a. tt;
+      after = λ κs a. tt;
+      silence = λ κs a. tt;
+      sounding-after = λ κs a. tt;
+      sounding-counts = λ κs a. tt;
+      sounding-silence = λ κs a. tt;
+    }
+
 pub every-input : EveryInput
-every-input = record { base = base; number = number; header = header; midi = midi; meta = meta; event = event; track = track; rows = rows; write = write; same = same; loader = loader; loader-track = loader-track }
+every-input = record { base = base; number = number; header = header; midi = midi; meta = meta; event = event; track = track; rows = rows; write = write; same = same; loader = loader; loader-track = loader-track; player = player }

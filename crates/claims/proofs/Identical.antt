@@ -6,7 +6,7 @@ use lib.ListN.{getD}
 use denote.Ref.{now}
 use Rattle.smf.specs.Write.{Written}
 use Rattle.smf.specs.Event.{Same}
-use Rattle.smf.specs.Lists.{SameList}
+use Rattle.smf.specs.Lists.{Held, SameList}
 use Rattle.track.specs.List.{capacity}
 use Rattle.number.specs.Varlen.{writeLeft}
 use Rattle.number.specs.declared.varlen.WroteNumber as varlen
@@ -18,6 +18,7 @@ use Rattle.header.proofs.IdenticalTimes.{triedSmpteTime-injective, encodedSmpte
 use Rattle.midi.proofs.IdenticalBends.{bendInt-injective, bendF32-injective, bendF64-injective}
 use Rattle.meta.proofs.Identical.{metaRead-injective}
 use Rattle.event.proofs.Identical.{eventOf-injective, eventRead-injective}
+use Rattle.event.specs.declared.TrackEvent.{TrackEvent}
 use Rattle.track.proofs.Identical.{heldOf-injective, listRead-injective, nextOf-injective}
 use Rattle.write.proofs.Identical.{lengthSaid-injective, wroteEvent-injective, sizeSaid-injective, wroteList-injective}
 use Rattle.rows.specs.Rows.{rowNumbers}
@@ -27,9 +28,11 @@ use Rattle.rows.specs.RowLists.{calledRows}
 use Rattle.rows.proofs.Identical.{rowAnswer-injective}
 use Rattle.same.specs.OfRows.{rowsAsked, listsAsked}
 use Rattle.same.proofs.Identical.{tells-identical, says-identical}
+use Rattle.player.specs.Table.{Table}
+use Rattle.player.specs.Answers.{Beside}
 use Rattle.claims.specs.Calls.{first, second, third, fourth, fifth, sixth}
 use Rattle.claims.proofs.Agree.{joined}
-use Rattle.claims.specs.Identical.{Numbers, Headers, Bends, Events, Lists, Identical}
+use Rattle.claims.specs.Identical.{Numbers, Headers, Bends, Events, Lists, Notes, Identical}
 
 -- a row is its numbers
 rowOf : List ℕ → Row
@@ -154,6 +157,7 @@ lists : Lists
 lists =
     record {
       list-new = λ κs a y z d e p q. heldOf-injective (p ∙ sym q);
+      recorded = λ κs a y z d e p q. ap (λ (own : TrackEvent). record { event = own }) (eventOf-injective (p ∙ sym q));
       list-read = λ κs a y z d e p q. listRead-injective (p ∙ sym q);
       cursor-next = λ κs a y z d e p q. nextOf-injective (p ∙ sym q);
       list-length = λ κs a y z d e p q. sizeSaid-injective (p ∙ sym q);
@@ -175,5 +179,15 @@ lists =
           y z p q;
     }
 
+notes : Notes
+notes =
+    record {
+      fresh = λ κs a y z d e p q. p ∙ sym q;
+      counts = λ κs a y z d e p q. p ∙ sym q;
+      after = λ κs a y z d e p q. let same = p ∙ sym q in joined (ap (λ (b : Beside Table). b .value) same, ap (λ (b : Beside Table). b .number) same);
+      silence = λ κs a y z d e p q.
+          let same = p ∙ sym q in joined (heldOf-injective (ap (λ (b : Beside Held). b .value) same), ap (λ (b : Beside Held). b .number) same);
+    }
+
 pub identical : Identical
-identical = record { numbers = numbers; headers = headers; bends = bends; events = events; lists = lists }
+identical = record { numbers = numbers; headers = headers; bends = bends; events = events; lists = lists; notes = notes }

@@ -1,6 +1,7 @@
 pub mod Calls
 pub mod Agree
 pub mod Refusals
+pub mod Player
 pub mod ReadLeaves
 pub mod Stands
 pub mod EventWrites
@@ -26,4 +27,9 @@ pub mod EntrySays
 pub mod EntryWrites
 pub mod EntryPoint1
 pub mod EntryPoint3
+pub mod LastNotes
+pub mod Names
+pub mod Silences
+pub mod SoundingRows
+pub mod Sounding
 pub mod All

@@ -1,4 +1,4 @@
--- What the kit knows of a list that is a value of its type: its array is full, and the type of each `Unknown` is a byte.
+-- What the kit knows of a value of its type: a list's array is full, and the type of each `Unknown` is a byte; a table has all its channels and keys.
 use mathlib.Core.Path.{_≡_, sym, _∙_}
 use mathlib.Core.List.{List, [], _∷_, map}
 use lib.ListN.{length, length-map}
@@ -25,6 +25,9 @@ use Rattle.track.proofs.list.Record as record-type
 use Rattle.track.proofs.list.EventList as list
 use Rattle.track.proofs.list.EventList.Laws as laws
 use Rattle.write.proofs.records.write_list as write-list
+use Rattle.player.proofs.Tables.{Shaped}
+use Rattle.player.proofs.Arrays.{shaped-array}
+use Rattle.player.proofs.table.counts as counts
 use Rattle.claims.proofs.Carried.{TypeByte, TypeBytes}
 
 number-type : (n : OptionU16) → TypeByte (metaCarries (numberMeta n))
@@ -80,3 +83,6 @@ module _ (κs : Lfts 2) (a : Dens κs write-list.Kinds.ps) (good : GoodsP κs wr
   list-types =
       let parts = struct.owed list.the-type laws.the-laws (a .0) (struct.val list.the-type laws.the-laws (a .0) ∷ []) (good .0) in
       all-types (a .0 .records) (parts .0 .0) (parts .0 .1 .1)
+
+pub full-table : (κs : Lfts 0) (a : Dens κs counts.Kinds.ps) → GoodsP κs counts.Kinds.ps a → Shaped (a .0)
+full-table κs a good = shaped-array (a .0) _ (good .0)

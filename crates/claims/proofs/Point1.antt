@@ -9,7 +9,7 @@ use Rattle.smf.specs.Answer.{Answer}
 use Rattle.smf.specs.Write as smf
 use Rattle.smf.specs.Write.{numberBytes, payloadBytes}
 use Rattle.smf.specs.Event.{legal, EventWritten}
-use Rattle.smf.specs.Lists.{ListAt, listAt, heldAs, recordsJudged, ListSize, ListWritten}
+use Rattle.smf.specs.Lists.{ListAt, listAt, holding, heldAs, recordsJudged, ListSize, ListWritten}
 use Rattle.base.specs.Refusal.{numberOf}
 use Rattle.base.specs.Rules.{rulesOf}
 use Rattle.base.specs.declared.Rules.{Rules}
@@ -23,6 +23,8 @@ use Rattle.rows.specs.RowLists.{rowsJudged}
 use Rattle.track.specs.List.{capacity, recordOf}
 use Rattle.track.specs.Read.{listRead}
 use Rattle.track.specs.declared.read.ReadList.{ReadList}
+use Rattle.player.specs.Widths.{accepted}
+use Rattle.player.specs.Sounding.{silence}
 use Rattle.claims.specs.Calls.{first}
 use Rattle.claims.specs.Table.{inTable, By, Keeps, ofNumber, ofPayload, ofMeta, ofLength}
 use Rattle.claims.specs.Stands.{EventOrLeft, ListStands}
@@ -30,6 +32,7 @@ use Rattle.claims.specs.Leaves.{EventLeaves, SizeLeaves, ListLeaves}
 use Rattle.claims.specs.Point1.{Numbered, Point1}
 use Rattle.claims.proofs.Calls as calls
 use Rattle.claims.proofs.Refusals.{by-more, number-at-by, payload-at-by, meta-at-by, width-by, format-by, rate-by, timing-by, timing-bytes-by, time-by, time-of-by, time-bytes-by, seconds-by, position-by, bend-by, bend-float-by, number-bytes-by, payload-bytes-by, write-keeps, legal-by, row-by, event-length-by}
+use Rattle.claims.proofs.Player.{accepted-by, silence-by, answers-beside}
 use Rattle.claims.proofs.ReadLeaves.{event-or-left}
 use Rattle.claims.proofs.Stands.{list-stands}
 use Rattle.claims.proofs.EventWrites.{event-leaves}
@@ -131,4 +134,9 @@ point-1 =
       write-rows = calls.write-rows _ (λ rows count running rules bytes out r end told.
           subst (λ (w : ListWritten). ListLeaves (rowsJudged (rulesOf rules) bytes count rows) count (running .status) out w (w .answer)) (sym told)
           (list-leaves (rowsJudged (rulesOf rules) bytes count rows) (rows-by (rulesOf rules) bytes count rows) count capacity (running .status) out));
+      after = calls.after _ (λ table list left number told.
+          let records = map recordOf (list .records) in
+          answers-beside (18 ∷ 21 ∷ []) table (accepted capacity records (list .count)) _ told (accepted-by capacity records (list .count)));
+      silence = calls.silence _ (λ table channel key list number told.
+          answers-beside (18 ∷ []) (holding capacity []) (silence capacity table (channel .0) (key .0)) _ told (silence-by capacity table (channel .0) (key .0)));
     }

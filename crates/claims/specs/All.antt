@@ -10,6 +10,7 @@ use Rattle.claims.specs.EntryPoint3.{EntryPoint3}
 use Rattle.claims.specs.Point1.{Point1}
 use Rattle.claims.specs.Point2.{Point2}
 use Rattle.claims.specs.Point3.{Writes, Point3}
+use Rattle.claims.specs.Sounding.{Sounding}
 use Rattle.claims.specs.SmfForms.{SmfForms}
 use Rattle.claims.specs.Literals.{Literals}
 
@@ -37,3 +38,5 @@ pub record All : Type 2 where
   pub smf-forms : SmfForms
   -- document 01's numbers, orders and forms, as literals
   pub literals : Literals
+  -- document 02, Q-1: notes still sounding
+  pub sounding : Sounding

@@ -6,9 +6,12 @@ use mathlib.Core.Path.{_≡_}
 use mathlib.Core.List.{List}
 use Prim.Native.Nat.{ℕ}
 use denote.Ref.{RefT, now}
+use borrow.Fn.Kinds.{GoodsP}
 use Rattle.base.specs.declared.Rules.{Rules}
 use Rattle.base.specs.declared.Running.{Running}
 use Rattle.base.specs.declared.Range.{Range}
+use Rattle.base.specs.declared.u4.{u4}
+use Rattle.base.specs.declared.u7.{u7}
 use Rattle.number.specs.declared.u28.{u28}
 use Rattle.number.specs.declared.varlen.ReadNumber.{ReadNumber}
 use Rattle.number.specs.declared.payload.ReadSlice.{ReadSlice}
@@ -36,6 +39,11 @@ use Rattle.write.proofs.records.write_list as write-list
 use Rattle.write.proofs.row_lists.rows_length as rows-length
 use Rattle.write.proofs.row_lists.write_rows as write-rows
 use Rattle.rows.proofs.lists.read_rows as read-rows
+use Rattle.player.specs.Table.{Table}
+use Rattle.player.proofs.table.fresh as fresh
+use Rattle.player.proofs.table.counts as counts
+use Rattle.player.proofs.notes.after as after
+use Rattle.player.proofs.silence.silence as silence
 
 -- a call of a function: its arguments, its answer, and the arguments at its end, at any lifetimes of what is lent
 module _ {L : Type 0} {A R E : L → Type 0} (Told : (κs : L) → A κs → R κs → E κs → Type 0) where
@@ -46,6 +54,10 @@ module _ {L : Type 0} {A R E : L → Type 0} (Told : (κs : L) → A κs → R �
   -- whatever the promise permits, the claim holds of it
   abbrev pub Always : Shows (Type 0) → Type 0
   Always Claim = (κs : L) (a : A κs) (z : R κs) (e : E κs) → Told κs a z e → Claim κs a z e
+
+  -- some call that the promise permits, and of which something holds
+  abbrev pub Some : Shows (Type 0) → Type 0
+  Some Holds = (κs : L) × ((a : A κs) × ((z : R κs) × ((e : E κs) × (Told κs a z e × Holds κs a z e))))
 
   -- any two answers that it permits for the same arguments are identical
   abbrev pub OneAnswer : Type 0
@@ -127,6 +139,14 @@ module _ {ℓ} {X : Type ℓ} where
   abbrev pub writeRowsCall : (List ℕ → ℕ → Running → Rules → List ℕ → List ℕ → WroteList → List ℕ → X) → Shows write-rows.Reads.Learnt X
   writeRowsCall show κs a r e = show (now (first a)) (second a) (third a) (fourth a) (now (fifth a)) (now (sixth a)) r (now (sixth e))
 
+  -- `after(table, list, answer)`: its answer, a table, and the number that `answer` holds at the end
+  abbrev pub afterCall : (Table → EventList → Table → ℕ → X) → Shows after.Reads.Learnt X
+  afterCall show κs a r e = show (first a) (second a) r (now (third e))
+
+  -- `silence(table, channel, key, answer)`: its answer, a list, and the number that `answer` holds at the end
+  abbrev pub silenceCall : (Table → u4 → u7 → EventList → ℕ → X) → Shows silence.Reads.Learnt X
+  silenceCall show κs a r e = show (first a) (second a) (third a) r (now (fourth e))
+
 -- Claims of every call
 
 -- `u28::read_u7(raw, at, rules)`, and its answer
@@ -174,3 +194,17 @@ RowsLength Claim = Always rows-length.Reads.Learnt (λ κs a r e. Claim (now (fi
 
 abbrev pub WriteRows : (List ℕ → ℕ → Running → Rules → List ℕ → List ℕ → WroteList → List ℕ → Type 0) → Type 0
 WriteRows Claim = Always write-rows.Reads.Learnt (writeRowsCall Claim)
+
+-- `fresh()`: its answer
+abbrev pub Fresh : (Table → Type 0) → Type 0
+Fresh Claim = Always fresh.Reads.Learnt (λ κs a r e. Claim r)
+
+-- `counts(table)`, and its answer; the table is a value of its type, as that of every call is: an array then has all its elements
+abbrev pub CountsOwned : (Table → List ℕ → Type 0) → Type 0
+CountsOwned Claim = Always counts.Reads.Learnt (λ κs a r e. GoodsP κs counts.Kinds.ps a → Claim (first a) r)
+
+abbrev pub After : (Table → EventList → Table → ℕ → Type 0) → Type 0
+After Claim = Always after.Reads.Learnt (afterCall Claim)
+
+abbrev pub Silence : (Table → u4 → u7 → EventList → ℕ → Type 0) → Type 0
+Silence Claim = Always silence.Reads.Learnt (silenceCall Claim)

@@ -2,10 +2,11 @@
 -- the same arguments are identical, and so is what each lent value and buffer holds at the end. A line for each public function, by its path.
 use Rattle.loader.proofs as loader
 use Rattle.loader_track.proofs as loader_track
+use Rattle.player.proofs as player
 use Rattle.rows.proofs as rows
 use Rattle.event.proofs as event
 use Rattle.claims.specs.Calls.{OneAnswer, OneOutcome, readRowsCall, _&_}
-use Rattle.claims.specs.EntryCalls.{numberReadEntry, numberWriteEntry, payloadReadEntry, payloadWriteEntry, formatReadEntry, formatEncodeEntry, timingReadEntry, timingEncodeEntry, fpsAsCodeEntry, fpsFromIntEntry, fpsAsF32Entry, smpteReadEntry, smpteEncodeEntry, smpteSecondF32Entry, smptePositionEntry, bendAsIntEntry, bendAsF32Entry, bendAsF64Entry, eventReadEntry, eventLengthEntry, eventWriteEntry, listReadEntry, listLengthEntry, listWriteEntry, eventSameEntry, listSameEntry}
+use Rattle.claims.specs.EntryCalls.{numberReadEntry, numberWriteEntry, payloadReadEntry, payloadWriteEntry, formatReadEntry, formatEncodeEntry, timingReadEntry, timingEncodeEntry, fpsAsCodeEntry, fpsFromIntEntry, fpsAsF32Entry, smpteReadEntry, smpteEncodeEntry, smpteSecondF32Entry, smptePositionEntry, bendAsIntEntry, bendAsF32Entry, bendAsF64Entry, eventReadEntry, eventLengthEntry, eventWriteEntry, listReadEntry, listLengthEntry, listWriteEntry, eventSameEntry, listSameEntry, soundingAfterEntry, soundingCountsEntry, soundingSilenceEntry}
 
 -- `loader`: numbers, payloads, and the rules of a call
 pub record NumberEntries : Type 0 where
@@ -90,6 +91,15 @@ pub record Sameness : Type 0 where
   pub list-same : OneOutcome loader_track.sameness.«apk_list_same».Reads.Learnt
       (listSameEntry (λ rowsA countA bytesA rowsB countB bytesB same r. r & same .after))
 
+-- `player`: notes still sounding
+pub record SoundingEntries : Type 0 where
+  pub sounding-after : OneOutcome player.entries.«apk_sounding_after».Reads.Learnt
+      (soundingAfterEntry (λ rows count table r. r & table .after))
+  pub sounding-counts : OneOutcome player.entries.«apk_sounding_counts».Reads.Learnt
+      (soundingCountsEntry (λ table sounding r. r & sounding .after))
+  pub sounding-silence : OneOutcome player.entries.«apk_sounding_silence».Reads.Learnt
+      (soundingSilenceEntry (λ table channel key rows count r. r & rows .after & count .after))
+
 -- `rows`: a list read into rows of numbers
 pub record Sheets : Type 0 where
   pub read-rows : OneOutcome rows.lists.«read_rows».Reads.Learnt (readRowsCall (λ raw at running rules cells r end. r & end))
@@ -107,5 +117,6 @@ pub record Entries : Type 0 where
   pub events : EventEntries
   pub lists : ListEntries
   pub sameness : Sameness
+  pub sounding : SoundingEntries
   pub sheets : Sheets
   pub handed-over : HandedOver

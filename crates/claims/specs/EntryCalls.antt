@@ -7,6 +7,7 @@ use lib.Ieee.{Float}
 use denote.Ref.{now}
 use Rattle.loader.proofs as loader
 use Rattle.loader_track.proofs as loader_track
+use Rattle.player.proofs as player
 use Rattle.claims.specs.Calls.{Shows, Lent, whileLent, first, second, third, fourth, fifth, sixth, seventh, eighth, ninth}
 
 module _ {ℓ} {X : Type ℓ} where
@@ -133,3 +134,17 @@ module _ {ℓ} {X : Type ℓ} where
   -- `apk_list_same(rows_a, count_a, bytes_a, rows_b, count_b, bytes_b, same)`
   abbrev pub listSameEntry : (List ℕ → ℕ → List ℕ → List ℕ → ℕ → List ℕ → Lent ℕ → ℕ → X) → Shows loader_track.sameness.«apk_list_same».Reads.Learnt X
   listSameEntry show κs a r e = show (now (first a)) (second a) (now (third a)) (now (fourth a)) (fifth a) (now (sixth a)) (whileLent (seventh a) (seventh e)) r
+
+  -- Notes still sounding
+
+  -- `apk_sounding_after(rows, count, table)`
+  abbrev pub soundingAfterEntry : (List ℕ → ℕ → Lent (List ℕ) → ℕ → X) → Shows player.entries.«apk_sounding_after».Reads.Learnt X
+  soundingAfterEntry show κs a r e = show (now (first a)) (second a) (whileLent (third a) (third e)) r
+
+  -- `apk_sounding_counts(table, sounding)`
+  abbrev pub soundingCountsEntry : (List ℕ → Lent (List ℕ) → Unit {0} → X) → Shows player.entries.«apk_sounding_counts».Reads.Learnt X
+  soundingCountsEntry show κs a r e = show (now (first a)) (whileLent (second a) (second e)) r
+
+  -- `apk_sounding_silence(table, channel, key, rows, count)`
+  abbrev pub soundingSilenceEntry : (List ℕ → ℕ → ℕ → Lent (List ℕ) → Lent ℕ → ℕ → X) → Shows player.entries.«apk_sounding_silence».Reads.Learnt X
+  soundingSilenceEntry show κs a r e = show (now (first a)) (second a) (third a) (whileLent (fourth a) (fourth e)) (whileLent (fifth a) (fifth e)) r

@@ -16,8 +16,9 @@ use Rattle.loader.specs.Entry.{fromBits}
 use Rattle.loader_track.specs.Lists.{stopNumber}
 use Rattle.loader.proofs as loader
 use Rattle.loader_track.proofs as loader_track
+use Rattle.player.proofs as player
 use Rattle.claims.specs.Calls.{Always, Lent}
-use Rattle.claims.specs.EntryCalls.{numberReadEntry, numberWriteEntry, payloadReadEntry, payloadWriteEntry, formatReadEntry, formatEncodeEntry, timingReadEntry, timingEncodeEntry, fpsAsCodeEntry, fpsFromIntEntry, fpsAsF32Entry, smpteNewEntry, smpteReadEntry, smpteEncodeEntry, smpteSecondF32Entry, smptePositionEntry, bendAsIntEntry, bendAsF32Entry, bendAsF64Entry, eventReadEntry, eventLengthEntry, eventWriteEntry, listReadEntry, listLengthEntry, listWriteEntry, eventSameEntry, listSameEntry}
+use Rattle.claims.specs.EntryCalls.{numberReadEntry, numberWriteEntry, payloadReadEntry, payloadWriteEntry, formatReadEntry, formatEncodeEntry, timingReadEntry, timingEncodeEntry, fpsAsCodeEntry, fpsFromIntEntry, fpsAsF32Entry, smpteNewEntry, smpteReadEntry, smpteEncodeEntry, smpteSecondF32Entry, smptePositionEntry, bendAsIntEntry, bendAsF32Entry, bendAsF64Entry, eventReadEntry, eventLengthEntry, eventWriteEntry, listReadEntry, listLengthEntry, listWriteEntry, eventSameEntry, listSameEntry, soundingAfterEntry, soundingSilenceEntry}
 use Rattle.claims.specs.EntrySays.{Unchanged, Outcome, AnswersBy, said, saidList, entryEventLeft, entrySizeLeft, entryListLeft}
 use Rattle.claims.specs.Table.{among, OneOf, ofNumber, ofPayload, ofEvent, ofLength, ofWriting, ofListLength, ofListWriting}
 use Rattle.claims.specs.Stands.{statusLeft, ListStands}
@@ -110,6 +111,14 @@ pub record SameRefusals : Type 0 where
   pub list-same : Always loader_track.sameness.«apk_list_same».Reads.Learnt (listSameEntry (λ rowsA countA bytesA rowsB countB bytesB same r.
       AnswersBy (18 ∷ 21 ∷ []) r (Unchanged same)))
 
+-- document 02, Q-1: 21 a count above what a list holds, 18 a row that is no event's, or a delta, a restricted field, or a channel or key asked for above
+-- its width; 20 too few cells for the rows that are handed out. A refusal hands out an empty list
+pub record SoundingRefusals : Type 0 where
+  pub sounding-after : Always player.entries.«apk_sounding_after».Reads.Learnt (soundingAfterEntry (λ rows count table r.
+      AnswersBy (18 ∷ 21 ∷ []) r (Unchanged table)))
+  pub sounding-silence : Always player.entries.«apk_sounding_silence».Reads.Learnt (soundingSilenceEntry (λ table channel key rows count r.
+      AnswersBy (18 ∷ 20 ∷ []) r (Unchanged rows × (count .after ≡ 0))))
+
 -- all of them
 pub record EntryPoint1 : Type 0 where
   pub numbers : NumberRefusals
@@ -118,3 +127,4 @@ pub record EntryPoint1 : Type 0 where
   pub bends : BendRefusals
   pub tracks : TrackRefusals
   pub sameness : SameRefusals
+  pub sounding : SoundingRefusals

@@ -14,6 +14,7 @@ use Rattle.write.proofs as write
 use Rattle.same.proofs as same
 use Rattle.loader.proofs as loader
 use Rattle.loader_track.proofs as loader_track
+use Rattle.player.proofs as player
 
 -- what a function asks holds, whatever the lifetimes of what is lent to it and its arguments are
 abbrev pub Any : {L : Type 0} {A : L → Type 0} → ((κs : L) → A κs → Type 0) → Type 0
@@ -115,6 +116,7 @@ pub record AnyTrack : Type 0 where
   pub list-new : Any track.list.EventList.new.Reads.Asked
   pub list-read : Any track.list.EventList.read.Reads.Asked
   pub cursor-next : Any track.cursor.Cursor.next.Reads.Asked
+  pub recorded : Any track.record.recorded.Reads.Asked
 
 -- `rows`: rows of cells, and lists read into them
 pub record AnyRows : Type 0 where
@@ -185,6 +187,16 @@ pub record AnyLoaderTrack : Type 0 where
   pub event-same : Any loader_track.sameness.«apk_event_same».Reads.Asked
   pub list-same : Any loader_track.sameness.«apk_list_same».Reads.Asked
 
+-- `player`: notes still sounding, and the entries for them
+pub record AnyPlayer : Type 0 where
+  pub fresh : Any player.table.fresh.Reads.Asked
+  pub counts : Any player.table.counts.Reads.Asked
+  pub after : Any player.notes.after.Reads.Asked
+  pub silence : Any player.silence.silence.Reads.Asked
+  pub sounding-after : Any player.entries.«apk_sounding_after».Reads.Asked
+  pub sounding-counts : Any player.entries.«apk_sounding_counts».Reads.Asked
+  pub sounding-silence : Any player.entries.«apk_sounding_silence».Reads.Asked
+
 -- all of them
 pub record EveryInput : Type 0 where
   pub base : AnyBase
@@ -199,3 +211,4 @@ pub record EveryInput : Type 0 where
   pub same : AnySame
   pub loader : AnyLoader
   pub loader-track : AnyLoaderTrack
+  pub player : AnyPlayer

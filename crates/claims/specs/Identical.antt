@@ -10,7 +10,8 @@ use Rattle.track.proofs as track
 use Rattle.rows.proofs as rows
 use Rattle.write.proofs as write
 use Rattle.same.proofs as same
-use Rattle.claims.specs.Calls.{OneAnswer, OneOutcome, writeVarlenCall, writeVarlenSliceCall, writeEventCall, writeRowCall, writeListCall, writeRowsCall, _&_}
+use Rattle.player.proofs as player
+use Rattle.claims.specs.Calls.{OneAnswer, OneOutcome, writeVarlenCall, writeVarlenSliceCall, writeEventCall, writeRowCall, writeListCall, writeRowsCall, afterCall, silenceCall, _&_}
 
 -- `base`, `number`: restricted numbers, refusals, the running status, variable-length numbers and payloads
 pub record Numbers : Type 0 where
@@ -103,6 +104,7 @@ pub record Events : Type 0 where
 -- `track`, `write`, `rows`, `same`: lists of events and of rows, an event as a row of numbers and back, and sameness
 pub record Lists : Type 0 where
   pub list-new : OneAnswer track.list.EventList.new.Reads.Learnt
+  pub recorded : OneAnswer track.record.recorded.Reads.Learnt
   pub list-read : OneAnswer track.list.EventList.read.Reads.Learnt
   pub cursor-next : OneAnswer track.cursor.Cursor.next.Reads.Learnt
   pub list-length : OneAnswer write.records.«list_length».Reads.Learnt
@@ -119,6 +121,13 @@ pub record Lists : Type 0 where
   pub same-rows : OneAnswer same.«of_rows».«same_rows».Reads.Learnt
   pub same-row-lists : OneAnswer same.«of_rows».«same_row_lists».Reads.Learnt
 
+-- `player`: the table of notes still sounding, what a list leaves in it, its counts, and the list that silences
+pub record Notes : Type 0 where
+  pub fresh : OneAnswer player.table.fresh.Reads.Learnt
+  pub counts : OneAnswer player.table.counts.Reads.Learnt
+  pub after : OneOutcome player.notes.after.Reads.Learnt (afterCall (λ table list r answer. r & answer))
+  pub silence : OneOutcome player.silence.silence.Reads.Learnt (silenceCall (λ table channel key r answer. r & answer))
+
 -- all of them
 pub record Identical : Type 0 where
   pub numbers : Numbers
@@ -126,3 +135,4 @@ pub record Identical : Type 0 where
   pub bends : Bends
   pub events : Events
   pub lists : Lists
+  pub notes : Notes

@@ -16,6 +16,7 @@ pub mod Point3
 pub mod EntrySays
 pub mod EntryPoint1
 pub mod EntryPoint3
+pub mod Sounding
 pub mod SmfForms
 pub mod Literals
 pub mod All

@@ -5,7 +5,7 @@ use mathlib.Core.Bool.{true}
 use mathlib.Core.List.{List, [], _∷_, map}
 use Prim.Native.Nat.{ℕ}
 use Rattle.smf.specs.Answer.{Answer}
-use Rattle.smf.specs.Lists.{ListAt, heldAs, recordsJudged}
+use Rattle.smf.specs.Lists.{ListAt, holding, heldAs, recordsJudged}
 use Rattle.base.specs.Refusal.{numberOf}
 use Rattle.base.specs.Restricted.{triedU2, triedU4, triedU7, triedU14, triedU15, triedU24}
 use Rattle.base.specs.Rules.{rulesOf}
@@ -23,15 +23,16 @@ use Rattle.midi.specs.Bend.{bendInt, bendF32, bendF64}
 use Rattle.midi.proofs as midi
 use Rattle.meta.specs.Meta.{metaRead}
 use Rattle.event.specs.Event.{eventOf, eventRead}
-use Rattle.track.specs.List.{capacity, recordOf}
+use Rattle.track.specs.List.{capacity, recordOf, heldOf}
 use Rattle.track.specs.Read.{listRead}
 use Rattle.rows.specs.RowLists.{rowsJudged}
 use Rattle.write.specs.Size.{lengthSaid}
 use Rattle.write.specs.Wrote.{wroteEvent}
 use Rattle.write.specs.ListAnswers.{sizeSaid, wroteList}
 use Rattle.write.proofs as write
-use Rattle.claims.specs.Calls.{Always, ReadU7, WriteVarlen, ReadVarlenSlice, WriteVarlenSlice, MetaMessageRead, TrackEventRead, EventListRead, WriteEvent, WriteRow, ListLength, WriteList, RowsLength, WriteRows}
+use Rattle.claims.specs.Calls.{Always, ReadU7, WriteVarlen, ReadVarlenSlice, WriteVarlenSlice, MetaMessageRead, TrackEventRead, EventListRead, WriteEvent, WriteRow, ListLength, WriteList, RowsLength, WriteRows, After, Silence}
 use Rattle.claims.specs.Table.{inTable, By, Keeps, ofNumber, ofPayload, ofMeta, ofLength}
+use Rattle.claims.specs.EntrySays.{AnswersBy}
 use Rattle.claims.specs.Stands.{EventOrLeft, ListStands}
 use Rattle.claims.specs.Leaves.{EventLeaves, SizeLeaves, ListLeaves}
 
@@ -97,3 +98,6 @@ pub record Point1 : Type 0 where
       SizeLeaves (rowsJudged (rulesOf rules) bytes count rows) count (running .status) (sizeSaid r) (sizeSaid r .answer))
   pub write-rows : WriteRows (λ rows count running rules bytes out r end.
       ListLeaves (rowsJudged (rulesOf rules) bytes count rows) count (running .status) out (wroteList r end) (wroteList r end .answer))
+  -- document 02, Q-1: a list that a table is given, 21 or 18, and the table as it came; a channel or key asked for, 18, and an empty list
+  pub after : After (λ table list left number. AnswersBy (18 ∷ 21 ∷ []) number (left ≡ table))
+  pub silence : Silence (λ table channel key list number. AnswersBy (18 ∷ []) number (heldOf list ≡ holding capacity []))

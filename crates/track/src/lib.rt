@@ -2,4 +2,4 @@
 pub mod cursor;
 pub mod list;
 pub mod read;
-mod record;
+pub mod record;

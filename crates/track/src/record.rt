@@ -1,27 +1,13 @@
 // The records of a list are made here and nowhere else, so that what joins a record is filled in at one place.
 ghost use mathlib.Core.Path.{_≡_};
-ghost use Rattle.smf.specs.Lists.{filler};
 ghost use Rattle.event.specs.Event.{eventOf};
 ghost use Rattle.track.specs.List.{recordOf};
 use crate::list::Record;
 use event::TrackEvent;
-use event::TrackEventKind;
-use meta::MetaMessage;
-use number::u28;
 
 // The record of an event.
 pub fn recorded(event: TrackEvent) -> Record
     ensures { λ r. ⌜ recordOf r ≡ eventOf event ⌝ }
 {
     Record { event }
-}
-
-// What stands past the count: delta 0, `EndOfTrack`.
-pub fn filler() -> Record
-    ensures { λ r. ⌜ recordOf r ≡ filler ⌝ }
-{
-    recorded(TrackEvent {
-        delta: u28(0),
-        kind: TrackEventKind::Meta(MetaMessage::EndOfTrack),
-    })
 }

@@ -144,9 +144,15 @@ pub fn is_loaded(row: &Row) -> bool {
     matches!(row[1], 0xF0 | 0xF7 | 0x101..=0x109 | 0x17F | 0x200)
 }
 
-/// Whether each field that the kind uses is within its width, or an SMPTE time within its ranges. No kind has any
+/// Whether each field that the kind uses is within its width, and an SMPTE time within its ranges. No kind has any
 /// other number.
 fn fits(row: &Row) -> bool {
+    let is_time = |r: &Row| r[2] < 24 && r[3] < 60 && r[4] < 60 && r[5] < r[7] && r[6] < 100;
+    within(row) && (row[1] != 0x154 || is_time(row))
+}
+
+/// Whether each field that the kind uses is within its width, those of an SMPTE time within bytes.
+pub fn within(row: &[u64]) -> bool {
     let [a, b, c, d, e, rate] = [row[2], row[3], row[4], row[5], row[6], row[7]];
     match row[1] {
         8..=11 => a < 16 && b < 128 && c < 128,
@@ -157,7 +163,7 @@ fn fits(row: &Row) -> bool {
         0x120 => a < 16,
         0x121 => a < 128,
         0x151 => a < 1 << 24,
-        0x154 => [24, 25, 29, 30].contains(&rate) && a < 24 && b < 60 && c < 60 && d < rate && e < 100,
+        0x154 => [24, 25, 29, 30].contains(&rate) && a < 256 && b < 256 && c < 256 && d < 256 && e < 256,
         0x158 => a < 256 && b < 256 && c < 256 && d < 256,
         0x159 | 0x200 => a < 256,
         _ => false,

@@ -17,8 +17,8 @@ use std::{
     process::{Command, Stdio},
 };
 
-/// The most bytes that are listed.
-const LONGEST: usize = 65_536;
+/// The most bytes that a program reads.
+pub const LONGEST: usize = 65_536;
 
 const STATUSES: [u8; 12] = [0x80, 0x93, 0xA0, 0xBF, 0xC1, 0xD2, 0xE0, 0xF0, 0xF7, 0xFF, 0xFF, 0xFF];
 const REFUSED: [u8; 4] = [0xF1, 0xF6, 0xF8, 0xFE];
@@ -29,6 +29,11 @@ const TYPES: [u8; 20] = [
 
 /// Lists standard input as the Rust reads it.
 pub fn list() -> i32 {
+    print(text)
+}
+
+/// Prints the text of standard input.
+pub fn print(text: impl Fn(&[u8]) -> (u8, String)) -> i32 {
     let mut bytes = Vec::new();
     match std::io::stdin().read_to_end(&mut bytes) {
         Ok(_) => print!("{}", text(&bytes).1),
@@ -48,7 +53,7 @@ pub fn run(mut random: Random, full: bool) -> Vec<Entry> {
     let mut entry = Entry::new("./list", &[0, 4, 6, 7, 8, 9, 13]);
     for _ in 0..if full { 2000 } else { 200 } {
         let bytes = sample(&mut random);
-        entry.compare(text(&bytes), port(&bytes), bytes.len(), || format!("{:?}", Bytes(&bytes)));
+        entry.compare(text(&bytes), port("list", &bytes), bytes.len(), || format!("{:?}", Bytes(&bytes)));
     }
     vec![entry]
 }
@@ -60,6 +65,12 @@ fn sample(random: &mut Random) -> Vec<u8> {
     for _ in 0..random.below(151) {
         running = event(random, running, &mut bytes);
     }
+    spoil(random, &mut bytes);
+    bytes
+}
+
+/// Changes a byte of some strings, and cuts some off.
+pub fn spoil(random: &mut Random, bytes: &mut Vec<u8>) {
     if random.below(3) == 0 && !bytes.is_empty() {
         let at = random.below(bytes.len());
         bytes[at] = random.byte();
@@ -67,7 +78,6 @@ fn sample(random: &mut Random) -> Vec<u8> {
     if random.below(4) == 0 {
         bytes.truncate(random.below(bytes.len() + 1));
     }
-    bytes
 }
 
 /// One event behind a running status; answers the running status behind it.
@@ -108,10 +118,10 @@ fn load(random: &mut Random, kind: u8) -> Vec<u8> {
     }
 }
 
-/// What the program writes, with the number that its first line has behind `stop`.
-fn port(bytes: &[u8]) -> (u8, String) {
+/// What a program writes, with the number that its first line has behind `stop`.
+pub fn port(program: &str, bytes: &[u8]) -> (u8, String) {
     let root = std::env::current_exe().unwrap().parent().unwrap().join("../..");
-    let mut run = Command::new(root.join("list")).stdin(Stdio::piped()).stdout(Stdio::piped()).spawn().unwrap();
+    let mut run = Command::new(root.join(program)).stdin(Stdio::piped()).stdout(Stdio::piped()).spawn().unwrap();
     run.stdin.take().unwrap().write_all(bytes).unwrap();
     let text = String::from_utf8(run.wait_with_output().unwrap().stdout).unwrap();
     let stop = text.split(' ').nth(3).and_then(|word| word.parse().ok()).unwrap_or(0);

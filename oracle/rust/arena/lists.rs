@@ -156,13 +156,7 @@ impl Lists {
                 status = listing::event(&mut self.random, status, &mut bytes);
             }
         }
-        if self.random.below(3) == 0 && !bytes.is_empty() {
-            let at = self.random.below(bytes.len());
-            bytes[at] = self.random.byte();
-        }
-        if self.random.below(4) == 0 {
-            bytes.truncate(self.random.below(bytes.len() + 1));
-        }
+        listing::spoil(&mut self.random, &mut bytes);
         self.bytes = bytes;
     }
 

@@ -1,7 +1,7 @@
 //! The port's exported entries. A slice goes over as its start and its length; the answer is a refusal's number, or
 //! 0. Beside the answer stands each value that an entry is to set: `None` where it left the value as it was.
 
-use super::sizes::{Row, WIDTH};
+use super::sizes::{Row, Table, CHANNELS, WIDTH};
 
 // An answer of eight or 16 bits is declared as 32 and cut. The port's code leaves the bits above it as they come, and
 // Rust on x86-64 would take them for zeros.
@@ -51,6 +51,11 @@ extern "C" {
     fn apk_list_same(
         rows_a: *const u64, cells_a: usize, count_a: usize, bytes_a: *const u8, length_a: usize,
         rows_b: *const u64, cells_b: usize, count_b: usize, bytes_b: *const u8, length_b: usize, same: *mut u8,
+    ) -> u32;
+    fn apk_sounding_after(rows: *const u64, cells: usize, count: usize, table: *mut Table) -> u32;
+    fn apk_sounding_counts(table: *const Table, sounding: *mut [u8; CHANNELS]);
+    fn apk_sounding_silence(
+        table: *const Table, channel: u8, key: u8, rows: *mut u64, cells: usize, count: *mut usize,
     ) -> u32;
     fn apk_format_read(bytes: *const u8, length: usize, format: *mut u8) -> u32;
     fn apk_format_encode(format: u8, bytes: *mut [u8; 2]) -> u32;
@@ -351,4 +356,23 @@ pub fn list_same(a: Sheet, b: Sheet) -> (u8, u8) {
         )
     };
     (answer as u8, same)
+}
+
+/// The table is changed in place.
+pub fn sounding_after(rows: &[u64], count: usize, table: &mut Table) -> u8 {
+    unsafe { apk_sounding_after(rows.as_ptr(), rows.len(), count, table) as u8 }
+}
+
+pub fn sounding_counts(table: &Table) -> [u8; CHANNELS] {
+    let mut sounding = [HELD as u8; CHANNELS];
+    unsafe { apk_sounding_counts(table, &mut sounding) };
+    sounding
+}
+
+/// The answer, and how many rows were put.
+pub fn sounding_silence(table: &Table, channel: u8, key: u8, rows: &mut [u64]) -> (u8, usize) {
+    let mut count = BEFORE;
+    let answer =
+        unsafe { apk_sounding_silence(table, channel, key, rows.as_mut_ptr(), rows.len(), &mut count) };
+    (answer as u8, count)
 }
