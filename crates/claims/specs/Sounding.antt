@@ -119,7 +119,7 @@ RowsGiven table channel key es =
     (soundingSilenceEntry (λ table′ channel′ key′ rows count r.
     (table′ ≡ table) × (channel′ ≡ channel) × (key′ ≡ key) × (r ≡ 0) × (calledRows (count .after) (rows .after) ≡ es)))
 
-pub record Sounding : Type 0 where
+pub record Sounding : Type 1 where
   -- `after` accepts exactly the lists that count no more than a list holds and whose deltas and restricted fields are within their widths; 21, then 18
   pub accepts : After (λ table list left number. (number ≡ 0) ↔ ((list .count ≤ capacity) × (allWithin (eventsIn list) ≡ true)))
   pub many : After (λ table list left number. capacity < list .count → number ≡ 21)
@@ -134,8 +134,8 @@ pub record Sounding : Type 0 where
   pub leaves : After (λ table list left number. number ≡ 0 → LeavesLast table (eventsIn list) left)
   pub entry-leaves : Always player.entries.«apk_sounding_after».Reads.Learnt (soundingAfterEntry (λ rows count table r. r ≡ 0
       → LeavesLast (tableIn (table .before)) (calledRows count rows) (tableIn (table .after))))
-  -- of the definition, whatever the lists hold: two lists in turn equal their joined events
-  pub joined : (table : Table) (es fs : List (Event Span)) → tableAfter (tableAfter table es) fs ≡ tableAfter table (es ++ fs)
+  -- of the definition, whatever the lists hold and whatever stands for a payload: two lists in turn equal their joined events
+  pub joined : {P : Type 0} (table : Table) (es fs : List (Event P)) → tableAfter (tableAfter table es) fs ≡ tableAfter table (es ++ fs)
   -- of `after`: two lists that are accepted in turn, and a list that joins them, which is accepted too and leaves the same table
   pub after-joined : After (λ table a left number. number ≡ 0 → After (λ table′ b left′ number′. table′ ≡ left → number′ ≡ 0
       → After (λ table″ c left″ number″. table″ ≡ table → Joins a b c → (number″ ≡ 0) × (left″ ≡ left′))))
