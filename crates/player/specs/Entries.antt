@@ -40,6 +40,7 @@ pub record CellsLeft : Type 0 where
   pub count : ℕ
   pub number : ℕ
 
+-- these cells, this count and this number
 abbrev pub cellsLeft : List ℕ → ℕ → ℕ → CellsLeft
 cellsLeft cells count number = record { cells = cells; count = count; number = number }
 
