@@ -6,6 +6,7 @@
 #include <string.h>
 
 #include "apkarewe.h"
+#include "apkarewe_answers.h"
 
 enum { MOST = 65536 };
 static uint8_t bytes[MOST + 1]; /* one more, which tells a file that is too long */
@@ -49,24 +50,6 @@ static const struct kind kinds[] = {
     {APK_KEY_SIGNATURE, "KeySignature", 2, 0},
     {APK_SEQUENCER_SPECIFIC, "SequencerSpecific", 0, 1},
     {APK_UNKNOWN, "Unknown", 1, 1},
-};
-
-/* Why an event can be refused in reading, by the number. */
-static const char *const refusals[] = {
-    [APK_RUNNING_STATUS] = "running status neither none nor 80..EF",
-    [APK_NUMBER_CUT_OFF] = "a number cut off by the end",
-    [APK_NUMBER_CONTINUES] = "fourth byte of a number continues",
-    [APK_NO_STATUS] = "no byte where the status stands",
-    [APK_NO_RUNNING_STATUS] = "data byte there, no running status",
-    [APK_SYSTEM_COMMON] = "status F1..F6",
-    [APK_SYSTEM_REALTIME] = "status F8..FE",
-    [APK_CHANNEL_DATA_SHORT] = "channel data too short",
-    [APK_CHANNEL_DATA_TOP_BIT] = "channel data byte with bit 7 set",
-    [APK_NO_META_TYPE] = "no meta type byte",
-    [APK_PAYLOAD_CUT_OFF] = "payload cut off",
-    [APK_CHANNEL_OR_PORT] = "channel above 15 or port above 127",
-    [APK_SMPTE_TIME] = "SMPTE time outside its ranges",
-    [APK_KEY_SIGNATURE_SHORT] = "key signature under two bytes",
 };
 
 /* The last kind stands for any other number, which the reader does not give. */
@@ -141,7 +124,7 @@ int main(int words, char **word) {
 
     printf("%zu events, %zu of %zu bytes read\n", events, place, length);
     if (stopped != APK_ACCEPTED) {
-        printf("refused at byte %zu: %u, %s\n", place, (unsigned)stopped, refusals[stopped]);
+        printf("refused at byte %zu: %u, %s\n", place, (unsigned)stopped, apk_reading[stopped]);
     }
     int same = written == place && memcmp(out, bytes, written) == 0;
     printf("%zu bytes written, %s\n", written, same ? "the same" : "not the same");
