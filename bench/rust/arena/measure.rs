@@ -1,7 +1,7 @@
 //! The port beside the Rust, in one process, turn by turn; the best of several turns counts.
 
 use super::{
-    port,
+    port::{self, Entries, PLAIN, PORT},
     tracks::{self, Track},
 };
 use crate::{
@@ -15,24 +15,22 @@ use std::{hint::black_box, time::Instant};
 const TURNS: usize = 7;
 const TURN: f64 = 0.05;
 
-/// Seconds of one pass, the best of several turns of each, one after the other.
-fn seconds(mut rust: impl FnMut() -> usize, mut port: impl FnMut() -> usize) -> (f64, f64) {
-    let passes = |work: &mut dyn FnMut() -> usize| {
+/// Seconds of one pass of each, the best of several turns, one after the other.
+fn seconds(works: [&mut dyn FnMut() -> usize; 3]) -> [f64; 3] {
+    let mut works = works.map(|work| {
         let start = Instant::now();
         black_box(work());
-        (TURN / start.elapsed().as_secs_f64()).ceil().max(1.0) as usize
-    };
-    let (rust_passes, port_passes) = (passes(&mut rust), passes(&mut port));
-    let (mut best_rust, mut best_port) = (f64::MAX, f64::MAX);
+        let passes = (TURN / start.elapsed().as_secs_f64()).ceil().max(1.0) as usize;
+        (work, passes, f64::MAX)
+    });
     for _ in 0..TURNS {
-        let start = Instant::now();
-        (0..rust_passes).for_each(|_| drop(black_box(rust())));
-        best_rust = best_rust.min(start.elapsed().as_secs_f64() / rust_passes as f64);
-        let start = Instant::now();
-        (0..port_passes).for_each(|_| drop(black_box(port())));
-        best_port = best_port.min(start.elapsed().as_secs_f64() / port_passes as f64);
+        for (work, passes, best) in &mut works {
+            let start = Instant::now();
+            (0..*passes).for_each(|_| drop(black_box(work())));
+            *best = best.min(start.elapsed().as_secs_f64() / *passes as f64);
+        }
     }
-    (best_rust, best_port)
+    works.map(|(_, _, best)| best)
 }
 
 // ---- one event after the other
@@ -49,11 +47,12 @@ fn rust_events(bytes: &[u8]) -> usize {
     count
 }
 
-fn port_events(bytes: &[u8]) -> usize {
+#[inline(always)]
+fn port_events(entries: Entries, bytes: &[u8]) -> usize {
     let (mut at, mut running, mut count) = (0, 0, 0);
     let mut row = [0; port::WIDTH];
     while at < bytes.len() {
-        let (answer, used, after) = port::event_read(bytes, at, running, &mut row);
+        let (answer, used, after) = entries.event_read(bytes, at, running, &mut row);
         if answer != 0 {
             break;
         }
@@ -75,10 +74,11 @@ fn rust_write_events(events: &[TrackEvent], out: &mut [u8]) -> usize {
     cursor.cursor()
 }
 
-fn port_write_events(rows: &[port::Row], bytes: &[u8], out: &mut [u8]) -> usize {
+#[inline(always)]
+fn port_write_events(entries: Entries, rows: &[port::Row], bytes: &[u8], out: &mut [u8]) -> usize {
     let (mut at, mut running) = (0, 0);
     for row in rows {
-        let (answer, next, after) = port::event_write(row, bytes, running, out, at);
+        let (answer, next, after) = entries.event_write(row, bytes, running, out, at);
         if answer != 0 {
             break;
         }
@@ -109,11 +109,12 @@ fn rust_lists(bytes: &[u8]) -> usize {
     count
 }
 
-fn port_lists(bytes: &[u8]) -> usize {
+#[inline(always)]
+fn port_lists(entries: Entries, bytes: &[u8]) -> usize {
     let (mut at, mut running, mut count) = (0, 0, 0);
     let mut rows = [[0; port::WIDTH]; port::CAPACITY];
     loop {
-        let (answer, n, place, after) = port::list_read(bytes, at, running, &mut rows);
+        let (answer, n, place, after) = entries.list_read(bytes, at, running, &mut rows);
         black_box(&rows);
         count += n;
         at = place;
@@ -138,10 +139,11 @@ fn rust_write_lists(events: &[TrackEvent], out: &mut [u8]) -> usize {
     at
 }
 
-fn port_write_lists(rows: &[port::Row], bytes: &[u8], out: &mut [u8]) -> usize {
+#[inline(always)]
+fn port_write_lists(entries: Entries, rows: &[port::Row], bytes: &[u8], out: &mut [u8]) -> usize {
     let (mut running, mut at) = (0, 0);
     for list in rows.chunks(port::CAPACITY) {
-        let (answer, length, after) = port::list_write(list, bytes, running, &mut out[at..]);
+        let (answer, length, after) = entries.list_write(list, bytes, running, &mut out[at..]);
         if answer != 0 {
             return at;
         }
@@ -153,20 +155,38 @@ fn port_write_lists(rows: &[port::Row], bytes: &[u8], out: &mut [u8]) -> usize {
 
 // ---- what is printed
 
-fn line(what: &str, track: &Track, events: usize, (rust, port): (f64, f64)) {
+fn line(what: &str, track: &Track, events: usize, [rust, port, plain]: [f64; 3]) {
     let rate = |seconds: f64| events as f64 / seconds / 1e6;
     println!(
-        "{:14} {:18} {:>9} {:>8}  {:>8.2} {:>8.2}  {:>8.0} {:>8.0}  {:>6.2}",
+        "{:14} {:18} {:>9} {:>8}  {:>8.2} {:>8.2} {:>8.2}  {:>8.0}  {:>7.2} {:>7.2}",
         what,
         track.name,
         track.bytes.len(),
         events,
         rate(rust),
         rate(port),
-        track.bytes.len() as f64 / rust / 1e6,
+        rate(plain),
         track.bytes.len() as f64 / port / 1e6,
-        rust / port
+        rust / port,
+        plain / port
     );
+}
+
+/// The rows of a track.
+#[inline(always)]
+fn rows_of(entries: Entries, bytes: &[u8]) -> Vec<port::Row> {
+    let (mut at, mut running, mut rows) = (0, 0, Vec::new());
+    while at < bytes.len() {
+        let mut row = [0; port::WIDTH];
+        let (answer, used, after) = entries.event_read(bytes, at, running, &mut row);
+        if answer != 0 {
+            break;
+        }
+        rows.push(row);
+        at += used;
+        running = after;
+    }
+    rows
 }
 
 fn all(bytes: &[u8]) -> (Vec<TrackEvent>, Vec<port::Row>) {
@@ -177,53 +197,69 @@ fn all(bytes: &[u8]) -> (Vec<TrackEvent>, Vec<port::Row>) {
             Err(_) => break,
         }
     }
-    let (mut at, mut running, mut rows) = (0, 0, Vec::new());
-    while at < bytes.len() {
-        let mut row = [0; port::WIDTH];
-        let (answer, used, after) = port::event_read(bytes, at, running, &mut row);
-        if answer != 0 {
-            break;
-        }
-        rows.push(row);
-        at += used;
-        running = after;
-    }
+    let rows = rows_of(PORT, bytes);
     assert_eq!(events.len(), rows.len());
+    assert!(rows == rows_of(PLAIN, bytes));
     (events, rows)
 }
 
 fn one(track: &Track) {
     let bytes = &track.bytes[..];
     let (events, rows) = all(bytes);
-    line("read events", track, events.len(), seconds(|| rust_events(bytes), || port_events(bytes)));
-    let (mut rust_out, mut port_out) = (vec![0; bytes.len() + 64], vec![0; bytes.len() + 64]);
-    let end = rust_write_events(&events, &mut rust_out);
-    assert_eq!(end, port_write_events(&rows, bytes, &mut port_out));
-    assert!(rust_out[..end] == port_out[..end]);
+    let count = events.len();
+    let outs = || vec![0; bytes.len() + 64];
+    let (mut rust_out, mut port_out, mut plain_out) = (outs(), outs(), outs());
+    let mut same = |ends: [usize; 3], outs: [&[u8]; 3]| {
+        assert!(ends[0] == ends[1] && ends[0] == ends[2]);
+        assert!(outs[0][..ends[0]] == outs[1][..ends[0]] && outs[0][..ends[0]] == outs[2][..ends[0]]);
+    };
+
+    line("read events", track, count, seconds([&mut || rust_events(bytes), &mut || port_events(PORT, bytes), &mut || port_events(PLAIN, bytes)]));
+    let ends = [
+        rust_write_events(&events, &mut rust_out),
+        port_write_events(PORT, &rows, bytes, &mut port_out),
+        port_write_events(PLAIN, &rows, bytes, &mut plain_out),
+    ];
+    same(ends, [&rust_out, &port_out, &plain_out]);
     line(
         "write events",
         track,
-        events.len(),
-        seconds(|| rust_write_events(&events, &mut rust_out), || port_write_events(&rows, bytes, &mut port_out)),
+        count,
+        seconds([
+            &mut || rust_write_events(&events, &mut rust_out),
+            &mut || port_write_events(PORT, &rows, bytes, &mut port_out),
+            &mut || port_write_events(PLAIN, &rows, bytes, &mut plain_out),
+        ]),
     );
-    assert_eq!(rust_lists(bytes), port_lists(bytes));
-    line("read lists", track, events.len(), seconds(|| rust_lists(bytes), || port_lists(bytes)));
-    assert_eq!(end, rust_write_lists(&events, &mut rust_out));
-    assert_eq!(end, port_write_lists(&rows, bytes, &mut port_out));
-    assert!(rust_out[..end] == port_out[..end]);
+
+    assert!(rust_lists(bytes) == port_lists(PORT, bytes) && port_lists(PORT, bytes) == port_lists(PLAIN, bytes));
+    line("read lists", track, count, seconds([&mut || rust_lists(bytes), &mut || port_lists(PORT, bytes), &mut || port_lists(PLAIN, bytes)]));
+    let ends = [
+        rust_write_lists(&events, &mut rust_out),
+        port_write_lists(PORT, &rows, bytes, &mut port_out),
+        port_write_lists(PLAIN, &rows, bytes, &mut plain_out),
+    ];
+    same(ends, [&rust_out, &port_out, &plain_out]);
     line(
         "write lists",
         track,
-        events.len(),
-        seconds(|| rust_write_lists(&events, &mut rust_out), || port_write_lists(&rows, bytes, &mut port_out)),
+        count,
+        seconds([
+            &mut || rust_write_lists(&events, &mut rust_out),
+            &mut || port_write_lists(PORT, &rows, bytes, &mut port_out),
+            &mut || port_write_lists(PLAIN, &rows, bytes, &mut plain_out),
+        ]),
     );
 }
 
 pub fn run(folder: Option<String>) {
-    println!("{:14} {:18} {:>9} {:>8}  {:>17}  {:>17}  {:>6}", "", "", "", "", "million events/s", "million bytes/s", "");
     println!(
-        "{:14} {:18} {:>9} {:>8}  {:>8} {:>8}  {:>8} {:>8}  {:>6}",
-        "what", "track", "bytes", "events", "Rust", "port", "Rust", "port", "ratio"
+        "{:14} {:18} {:>9} {:>8}  {:>26}  {:>8}  {:>15}",
+        "", "", "", "", "million events/s", "MB/s", "port's speed to"
+    );
+    println!(
+        "{:14} {:18} {:>9} {:>8}  {:>8} {:>8} {:>8}  {:>8}  {:>7} {:>7}",
+        "what", "track", "bytes", "events", "Rust", "port", "plain C", "port", "Rust", "plain C"
     );
     for track in tracks::of_size(64 << 10) {
         one(&track);
