@@ -10,3 +10,4 @@ pub mod RowsKept
 pub mod Copying
 pub mod LaidRow
 pub mod RowsOn
+pub mod ShortReads

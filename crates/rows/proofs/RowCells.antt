@@ -1,30 +1,30 @@
 -- What the loop that reads a list into cells keeps: the rows of the events so far stand in front.
-use mathlib.Core.Path.{_≡_, refl, sym, ap, _∙_}
+use mathlib.Core.Path.{_≡_, refl, sym, ap, subst, _∙_}
 use mathlib.Core.Bool.{true, false}
 use mathlib.Core.List.{List, [], _∷_, _++_, append-assoc, append-nil}
-use Prim.Native.Nat.{ℕ, _+_, _*_, _≤_}
+use Prim.Native.Nat.{ℕ, _+_, _*_, _≤_, _<_}
 use native.Mathlib.Omega.{arith}
-use lib.ListN.{length, length-append}
+use lib.Dec.{leb}
+use lib.ListN.{length, drop, length-append}
+use borrow.Author.Tests.{leb-false}
 use Rattle.smf.specs.Answer.{Rules, gives}
 use Rattle.smf.specs.Running.{isRunning}
 use Rattle.smf.specs.Place.{Span}
-use Rattle.smf.specs.Event.{Event}
+use Rattle.smf.specs.Wire.{Taken, Reading, reads, refused}
+use Rattle.smf.specs.Event.{Event, placed, readEvent, eventAt}
 use Rattle.smf.specs.Write.{over}
-use Rattle.smf.specs.Lists.{stopped, listAt, Reader, nextAt}
+use Rattle.smf.specs.Lists as smf
+use Rattle.smf.specs.Lists.{stopped, listAt, Reader, takes, stops, stepOn, nextAt}
+use Rattle.smf.proofs.Answer.{pick-test}
+use Rattle.smf.proofs.Event.{event-read}
 use Rattle.smf.proofs.Write.{length-over, over-over, put-fits}
 use Rattle.smf.proofs.ListPlaces.{list-invalid}
 use Rattle.smf.proofs.Steps.{readerAt}
-use Rattle.event.specs.Event.{eventOf}
-use Rattle.track.specs.Cursor.{stopOf, readerOf, nextOf}
-use Rattle.track.specs.declared.cursor.Next.{Next}
-use Rattle.track.specs.declared.cursor.Next.the-variants as next
-use Rattle.track.specs.declared.cursor.NextEvent.{NextEvent}
-use Rattle.track.specs.declared.cursor.Stop.{Stop}
-use Rattle.track.proofs.Reading.{Sofar, begun, all, took, again}
+use Rattle.track.proofs.Reading.{Sofar, begun, all, again}
 use Rattle.rows.specs.Rows.{width, eventRow}
 use Rattle.rows.proofs.Width.{row-length}
 use Rattle.rows.specs.Sheet.{sheetOf}
-use Rattle.rows.specs.Read.{readSheet}
+use Rattle.rows.specs.Read.{readSheet, Onward, goes, halts, LaidStep, laidNext}
 
 pub sheet-length : (es : List (Event Span)) → length (sheetOf es) ≡ length es * width
 unfolding sheetOf
@@ -59,14 +59,40 @@ pub unread : (cap : ℕ) (rules : Rules) (s : List ℕ) (at first : ℕ) (cells 
 unfolding sheetOf
 unread cap rules s at first cells v = rw (list-invalid rules cap first s at v, ← put-fits [] cells 0 (omega arith))
 
+-- an event that a list takes is one of so many, and leaves a valid running status
+module _ (rules : Rules) (cap : ℕ) (s : List ℕ) (r : Reader) where
+  abbrev Known : smf.Next → Type 0
+  Known (takes e r′) = (r .count < cap) × (isRunning (r′ .running) ≡ true)
+  Known (stops why) = Unit {0}
+
+  event-known : r .count < cap → (a : Reading (Taken (Event (List ℕ)))) → readEvent rules (r .running) (drop (r .place) s) ≡ a → Known (stepOn r (placed s (r .place) a))
+  unfolding stepOn placed
+  event-known h (reads t) e = (h, event-read rules (r .running) (drop (r .place) s) t e .runs)
+  event-known h (refused n after) e = tt
+
+  pub next-known : Known (nextAt rules cap s r)
+  unfolding nextAt eventAt
+  next-known =
+      pick-test Known (leb (length s) (r .place)) (λ t. tt)
+      (λ t. pick-test Known (leb cap (r .count)) (λ u. tt)
+      (λ u. event-known (omega (arith, leb-false cap (r .count) u)) (readEvent rules (r .running) (drop (r .place) s)) refl))
+
+  module _ {e : Event Span} {r′ : Reader} (q : nextAt rules cap s r ≡ takes e r′) where
+    pub next-room : r .count < cap
+    next-room = subst Known q next-known .0
+
+    pub next-runs : isRunning (r′ .running) ≡ true
+    next-runs = subst Known q next-known .1
+
 pub record Laying (cap : ℕ) (rules : Rules) (s : List ℕ) (at first : ℕ) (before out : List ℕ) (r : Reader) : Type 0 where
   pub events : List (Event Span)
   pub sofar : Sofar cap rules s at first events r
+  pub runs : isRunning (r .running) ≡ true
   pub rows : out ≡ over (sheetOf events) before 0
 
 pub laying-first : (cap : ℕ) (rules : Rules) (s : List ℕ) (at first : ℕ) (before : List ℕ) → isRunning first ≡ true → Laying cap rules s at first before before (readerAt at first)
 unfolding sheetOf
-laying-first cap rules s at first before v = record { events = []; sofar = begun cap rules s at first v; rows = refl }
+laying-first cap rules s at first before v = record { events = []; sofar = begun cap rules s at first v; runs = v; rows = refl }
 
 module _ {cap : ℕ} {rules : Rules} {s : List ℕ} {at first : ℕ} {before out : List ℕ} {r : Reader} (room : cap * width ≤ length before) (g : Laying cap rules s at first before out r) where
   front : length (sheetOf (g .events)) ≡ r .count * width
@@ -78,23 +104,59 @@ module _ {cap : ℕ} {rules : Rules} {s : List ℕ} {at first : ℕ} {before out
   pub laying-length : length out ≡ length before
   laying-length = ap length (g .rows) ∙ length-over (sheetOf (g .events)) before 0 fits
 
-  module _ (n : Next) (there : nextOf n ≡ nextAt rules cap s r) where
-    -- the answer, where the step stops
-    pub laid : (why : Stop) → n ≡ next.Stop why
-        → record { cells = out; answer = gives (record { count = r .count; stop = stopOf why; place = r .place; running = r .running }) } ≡ readSheet (listAt rules cap first s at) before
-    laid why e = rw (all (g .sofar) n there why e, ← put-fits (sheetOf (g .events)) before 0 fits, g .sofar .counted, g .rows)
+  -- the answer, where the step stops
+  pub laid : {why : smf.Stop} → nextAt rules cap s r ≡ stops why
+      → record { cells = out; answer = gives (record { count = r .count; stop = why; place = r .place; running = r .running }) } ≡ readSheet (listAt rules cap first s at) before
+  laid e = rw (all (g .sofar) e, ← put-fits (sheetOf (g .events)) before 0 fits, g .sofar .counted, g .rows)
 
-    module _ (step : NextEvent) (e : n ≡ next.Event step) where
-      pub laying-room : r .count * width + width ≤ length out
-      laying-room = omega (arith, laying-length, room, took (g .sofar) n there step e .room)
+  module _ {own : Event Span} {r′ : Reader} (e : nextAt rules cap s r ≡ takes own r′) where
+    pub laying-more : (end : List ℕ) → end ≡ over (eventRow own) out (r .count * width) → Laying cap rules s at first before end r′
+    laying-more end put =
+        record {
+          events = g .events ++ (own ∷ []);
+          sofar = again (g .sofar) e;
+          runs = next-runs rules cap s r e;
+          rows =
+              put
+              ∙ ap (λ (l : List ℕ). over (eventRow own) l (r .count * width)) (g .rows)
+              ∙ sheet-over (g .events) own before (r .count) (g .sofar .counted);
+        }
 
-      pub laying-more : (end : List ℕ) → end ≡ over (eventRow (eventOf (step .event))) out (r .count * width) → Laying cap rules s at first before end (readerOf (step .cursor))
-      laying-more end put =
-          record {
-            events = g .events ++ (eventOf (step .event) ∷ []);
-            sofar = again (g .sofar) n there step e;
-            rows =
-                put
-                ∙ ap (λ (l : List ℕ). over (eventRow (eventOf (step .event))) l (r .count * width)) (g .rows)
-                ∙ sheet-over (g .events) (eventOf (step .event)) before (r .count) (g .sofar .counted);
-          }
+-- what a step that was laid says of the step that the list takes
+pub record LaidOn (n : smf.Next) (count : ℕ) (cells end : List ℕ) (r : Reader) : Type 0 where
+  pub event : Event Span
+  pub is : n ≡ takes event r
+  pub put : end ≡ over (eventRow event) cells (count * width)
+
+abbrev reader : Onward → Reader → Reader
+reader (goes r) none = r
+reader (halts why) none = none
+
+abbrev why : Onward → smf.Stop → smf.Stop
+why (goes r) none = none
+why (halts w) none = w
+
+abbrev which : Onward → ℕ
+which (goes r) = 0
+which (halts w) = 1
+
+pub laid-on : (n : smf.Next) (count : ℕ) {cells end : List ℕ} {r : Reader} → record { onward = goes r; cells = end } ≡ laidNext n count cells → LaidOn n count cells end r
+laid-on (takes e r′) count {r = r} q =
+    record {
+      event = e;
+      is = ap (λ (l : LaidStep). takes e (reader (l .onward) r)) (sym q);
+      put = ap (λ (l : LaidStep). l .cells) q;
+    }
+laid-on (stops w) count q = absurd (omega (arith, ap (λ (l : LaidStep). which (l .onward)) q))
+
+pub record LaidStop (n : smf.Next) (cells end : List ℕ) (w : smf.Stop) : Type 0 where
+  pub is : n ≡ stops w
+  pub kept : end ≡ cells
+
+pub laid-stop : (n : smf.Next) (count : ℕ) {cells end : List ℕ} {w : smf.Stop} → record { onward = halts w; cells = end } ≡ laidNext n count cells → LaidStop n cells end w
+laid-stop (stops w′) count {w = w} q =
+    record {
+      is = ap (λ (l : LaidStep). stops (why (l .onward) w)) (sym q);
+      kept = ap (λ (l : LaidStep). l .cells) q;
+    }
+laid-stop (takes e r) count q = absurd (omega (arith, ap (λ (l : LaidStep). which (l .onward)) q))

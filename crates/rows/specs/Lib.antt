@@ -5,4 +5,5 @@ pub mod RowLists
 pub mod RowAnswer
 pub mod Sheet
 pub mod Read
+pub mod Short
 pub mod Kept

@@ -1,16 +1,19 @@
 -- What reading a list into cells leaves in them and answers, in the terms of the definitions.
 use mathlib.Core.List.{List}
-use Prim.Native.Nat.{ℕ}
+use Prim.Native.Nat.{ℕ, _*_}
 use lib.ListN.{length}
 use Rattle.smf.specs.Answer.{Answer, gives, refuses, andThen}
-use Rattle.smf.specs.Write.{Written, put}
+use Rattle.smf.specs.Write.{Written, put, over}
 use Rattle.smf.specs.Lists as smf
 use Rattle.base.specs.Refusal.{numberOf}
-use Rattle.track.specs.Cursor.{stopOf}
+use Rattle.track.specs.Cursor.{stopOf, readerOf}
+use Rattle.rows.specs.Rows.{width, eventRow}
 use Rattle.rows.specs.Sheet.{sheetOf}
 use Rattle.rows.specs.declared.lists.RowsRead.{RowsRead}
 use Rattle.rows.specs.declared.lists.ReadRows.{ReadRows}
 use Rattle.rows.specs.declared.lists.ReadRows.the-variants as read
+use Rattle.rows.specs.declared.lists.Laid.{Laid}
+use Rattle.rows.specs.declared.lists.Laid.the-variants as laid
 
 -- of a list that was read: how many its events are, why reading stopped, the place of the next unread byte and the running status there
 pub record SheetAt : Type 0 where
@@ -48,3 +51,25 @@ sheetAnswered (read.Refused n) = refuses (numberOf n)
 -- what the code answers, with what the cells hold at the end
 abbrev pub rowsLeft : ReadRows → List ℕ → SheetRead
 rowsLeft r cells = record { cells = cells; answer = sheetAnswered r }
+
+-- One step of it
+
+-- where the reader goes on, or why it stops
+pub data Onward : Type 0 where
+  goes : smf.Reader → Onward
+  halts : smf.Stop → Onward
+
+-- that, and what the cells hold
+pub record LaidStep : Type 0 where
+  pub onward : Onward
+  pub cells : List ℕ
+
+-- by the step that a list takes: the row of its event is laid behind so many others
+abbrev pub laidNext : smf.Next → ℕ → List ℕ → LaidStep
+laidNext (smf.takes e r) n cells = record { onward = goes r; cells = over (eventRow e) cells (n * width) }
+laidNext (smf.stops why) n cells = record { onward = halts why; cells = cells }
+
+-- what the code answers, with what the cells hold at the end
+abbrev pub laidOf : Laid → List ℕ → LaidStep
+laidOf (laid.On cursor) cells = record { onward = goes (readerOf cursor); cells = cells }
+laidOf (laid.Stop why) cells = record { onward = halts (stopOf why); cells = cells }

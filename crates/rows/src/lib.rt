@@ -2,6 +2,7 @@
 // Rows are what the entries hand to C and take from it, and what sameness compares.
 pub mod back;
 pub mod lists;
+mod short;
 
 ghost use mathlib.Core.Path.{_≡_};
 ghost use mathlib.Core.List.{[], _∷_};

@@ -1,15 +1,20 @@
 // Lists read into rows: each event goes straight into its row, from the first cell on.
 ghost use mathlib.Core.Path.{_≡_};
+ghost use mathlib.Core.Bool.{true};
 ghost use Prim.Native.Nat.{_+_, _*_, _≤_};
 ghost use lib.ListN.{length, take};
 ghost use Rattle.smf.specs.Write.{over};
-ghost use Rattle.smf.specs.Lists.{listAt};
+ghost use Rattle.smf.specs.Lists.{listAt, nextAt};
+ghost use Rattle.smf.specs.Running.{isRunning};
 ghost use Rattle.base.specs.Rules.{rulesOf};
 ghost use Rattle.rows.specs.Rows.{width};
 ghost use Rattle.track.specs.List.{capacity};
-ghost use Rattle.rows.specs.Read.{readSheet, rowsLeft};
+ghost use Rattle.track.specs.Cursor.{readerOf};
+ghost use Rattle.rows.specs.Read.{readSheet, rowsLeft, laidNext, laidOf};
 use crate::WIDTH;
 use crate::event_row;
+use crate::short::short_at;
+use crate::short::short_row;
 use base::Refusal;
 use base::Rules;
 use base::Running;
@@ -37,6 +42,14 @@ pub enum ReadRows {
     Refused(Refusal),
 }
 
+// What laying the row of the next event answers.
+pub enum Laid {
+    // it was laid, and where the reader is behind its event
+    On(Cursor),
+    // there is no next event, and why; the cells stay as they are
+    Stop(Stop),
+}
+
 // Lays a row into cells from a place on.
 fn put_row(rows: &mut [u64], at: usize, row: [u64; WIDTH])
     requires { ⌜ at + width ≤ length (now rows) ⌝ }
@@ -61,6 +74,53 @@ fn copy_cells(cells: &[u64], n: usize, rows: &mut [u64])
     }
 }
 
+// Lays the row of the next event, whatever it is: the general way.
+fn lay_any(raw: &[u8], cursor: Cursor, rules: Rules, rows: &mut [u64]) -> Laid
+    requires { ⌜ capacity * width ≤ length (now rows) ⌝ }
+    ensures { λ r. ⌜ laidOf r (now (rows .exit)) ≡ laidNext (nextAt (rulesOf rules) capacity (now (raw .entry)) (readerOf cursor)) (cursor .count) (now (rows .entry)) ⌝ }
+{
+    match cursor.next(raw, rules) {
+        Next::Stop(why) => Laid::Stop(why),
+        Next::Event(step) => {
+            let event = step.event;
+            let kind = event.kind;
+            let behind = step.cursor;
+            put_row(rows, cursor.count * WIDTH, event_row(event.delta.0, kind));
+            Laid::On(behind)
+        }
+    }
+}
+
+// Lays the row of the next event: of a short one straight from its bytes, of any other the general way, which also says
+// why reading stops.
+fn lay_next(raw: &[u8], cursor: Cursor, rules: Rules, rows: &mut [u64]) -> Laid
+    requires { ⌜ (isRunning (cursor .running .status) ≡ true) × (capacity * width ≤ length (now rows)) ⌝ }
+    ensures { λ r. ⌜ laidOf r (now (rows .exit)) ≡ laidNext (nextAt (rulesOf rules) capacity (now (raw .entry)) (readerOf cursor)) (cursor .count) (now (rows .entry)) ⌝ }
+{
+    let place = cursor.place;
+    let running = cursor.running;
+    let short = short_at(raw, place, running);
+    let used = short.used;
+    if used == 0 {
+        return lay_any(raw, cursor, rules, rows);
+    }
+    let count = cursor.count;
+    if CAPACITY <= count {
+        return Laid::Stop(Stop::Full);
+    }
+    let status = short.status;
+    put_row(
+        rows,
+        count * WIDTH,
+        short_row(raw[place], status, short.a, short.b),
+    );
+    Laid::On(Cursor {
+        running: Running { status },
+        place: place + used,
+        count: count + 1,
+    })
+}
+
 // Reads a list and lays one row behind the other, into cells for a full list; from an invalid running status nothing is
 // read.
 fn lay_rows(raw: &[u8], at: usize, running: Running, rules: Rules, rows: &mut [u64]) -> RowsRead
@@ -75,15 +135,12 @@ fn lay_rows(raw: &[u8], at: usize, running: Running, rules: Rules, rows: &mut [u
     let mut stop = Stop::Refused(Refusal::RunningStatus);
     if running.is_valid() {
         stop = loop {
-            match cursor.next(raw, rules) {
-                Next::Stop(why) => {
+            match lay_next(raw, cursor, rules, rows) {
+                Laid::Stop(why) => {
                     break why;
                 }
-                Next::Event(step) => {
-                    let event = step.event;
-                    let kind = event.kind;
-                    put_row(rows, cursor.count * WIDTH, event_row(event.delta.0, kind));
-                    cursor = step.cursor;
+                Laid::On(next) => {
+                    cursor = next;
                 }
             }
         };

@@ -41,17 +41,18 @@ module _ {cap : ℕ} {rules : Rules} {s : List ℕ} {at first : ℕ} {xs : List 
   -- the answer, where the step stops
   pub filled : (why : Stop) → n ≡ next.Stop why
       → record { list = record { records = map recordOf xs; count = r .count }; stop = stopOf why; place = r .place; running = r .running } ≡ heldAs cap (listAt rules cap first s at)
-  filled why e = rw (all (h .sofar) n there why e, ← h .held)
+  filled why e = rw (all (h .sofar) (sym there ∙ ap nextOf e), ← h .held)
 
   pub filling-more : (step : NextEvent) → n ≡ next.Event step → (x : Record) → recordOf x ≡ eventOf (step .event) → Filling cap rules s at first (set xs (r .count) x) (readerOf (step .cursor))
   filling-more step e x kept =
       let own = eventOf (step .event) in
-      let t = took (h .sofar) n there step e in
+      let is = sym there ∙ ap nextOf e in
+      let t = took (h .sofar) is in
       let more : Holds cap (set xs (r .count) x) (r .count + 1) (h .events ++ (own ∷ [])) = rw kept at (holds-more cap xs (r .count) (h .events) x (t .room) (h .held)) in
       record {
         events = h .events ++ (own ∷ []);
         held = subst (λ (k : ℕ). Holds cap (set xs (r .count) x) k (h .events ++ (own ∷ []))) (sym (t .counted)) more;
-        sofar = again (h .sofar) n there step e;
+        sofar = again (h .sofar) is;
       }
 
 -- a list that was read counts its events

@@ -1,5 +1,5 @@
 -- What a reader of lists keeps: the events so far, and that the list from the cursor on is what is left of the answer.
-use mathlib.Core.Path.{_≡_, sym, ap, subst, _∙_}
+use mathlib.Core.Path.{_≡_, ap, subst, _∙_}
 use mathlib.Core.Bool.{true}
 use mathlib.Core.List.{List, [], _∷_, _++_, append-assoc, append-nil}
 use Prim.Native.Nat.{ℕ, _+_, _≤_}
@@ -14,12 +14,6 @@ use Rattle.smf.specs.Lists.{readList, eventFrom, ListAt, listAt, Reader, nextAt
 use Rattle.smf.proofs.Place.{Sited, site-begun}
 use Rattle.smf.proofs.Lists.{list-read}
 use Rattle.smf.proofs.Steps.{listFrom, readerAt, Took, Stepped, list-from, next-stepped}
-use Rattle.event.specs.Event.{eventOf}
-use Rattle.track.specs.Cursor.{stopOf, readerOf, nextOf}
-use Rattle.track.specs.declared.cursor.Next.{Next}
-use Rattle.track.specs.declared.cursor.Next.the-variants as next
-use Rattle.track.specs.declared.cursor.NextEvent.{NextEvent}
-use Rattle.track.specs.declared.cursor.Stop.{Stop}
 
 -- events in front of those of a list
 abbrev behind : List (Event Span) → ListAt → ListAt
@@ -56,27 +50,25 @@ module _ {cap : ℕ} {rules : Rules} {s : List ℕ} {at first : ℕ} {es : List 
   pub among : r .count ≤ length (listAt rules cap first s at .events)
   among = omega (arith, h .counted, ap (λ (l : ListAt). length (l .events)) (h .sofar), length-append es (listFrom rules cap s at r .events))
 
-  module _ (n : Next) (there : nextOf n ≡ nextAt rules cap s r) where
-    stepped : Stepped rules cap s at r (nextOf n)
-    stepped = subst (Stepped rules cap s at r) (sym there) (next-stepped rules cap s at r (h .site))
+  stepped : Stepped rules cap s at r (nextAt rules cap s r)
+  stepped = next-stepped rules cap s at r (h .site)
 
-    -- where the step stops, the events so far are all
-    pub all : (why : Stop) → n ≡ next.Stop why → Answered cap rules s at first es (stopOf why) r
-    all why e =
-        let q : Stepped rules cap s at r (smf.stops (stopOf why)) = subst (λ (m : Next). Stepped rules cap s at r (nextOf m)) e stepped in
-        h .sofar ∙ ap (behind es) q ∙ rw (append-nil es)
+  -- where the step stops, the events so far are all
+  pub all : {why : smf.Stop} → nextAt rules cap s r ≡ smf.stops why → Answered cap rules s at first es why r
+  all {why} e =
+      let q : Stepped rules cap s at r (smf.stops why) = subst (Stepped rules cap s at r) e stepped in
+      h .sofar ∙ ap (behind es) q ∙ rw (append-nil es)
 
-    module _ (step : NextEvent) (e : n ≡ next.Event step) where
-      pub took : Took rules cap s at r (eventOf (step .event)) (readerOf (step .cursor))
-      took = subst (λ (m : Next). Stepped rules cap s at r (nextOf m)) e stepped
+  module _ {own : Event Span} {r′ : Reader} (e : nextAt rules cap s r ≡ smf.takes own r′) where
+    pub took : Took rules cap s at r own r′
+    took = subst (Stepped rules cap s at r) e stepped
 
-      -- where it takes an event, that is one more
-      pub again : Sofar cap rules s at first (es ++ (eventOf (step .event) ∷ [])) (readerOf (step .cursor))
-      again =
-          let own = eventOf (step .event) in
-          record {
-            counted = length-append es (own ∷ []) ∙ omega (arith, h .counted, took .counted);
-            within = omega (arith, took .room, took .counted);
-            site = took .site;
-            sofar = h .sofar ∙ ap (behind es) (took .list) ∙ rw (append-assoc es (own ∷ []) (listFrom rules cap s at (readerOf (step .cursor)) .events));
-          }
+    -- where it takes an event, that is one more
+    pub again : Sofar cap rules s at first (es ++ (own ∷ [])) r′
+    again =
+        record {
+          counted = length-append es (own ∷ []) ∙ omega (arith, h .counted, took .counted);
+          within = omega (arith, took .room, took .counted);
+          site = took .site;
+          sofar = h .sofar ∙ ap (behind es) (took .list) ∙ rw (append-assoc es (own ∷ []) (listFrom rules cap s at r′ .events));
+        }

@@ -1,18 +1,18 @@
 -- The loop that reads a list into cells meets its contract: an invalid running status, its turns and its stops.
 use mathlib.Core.Path.{_≡_, sym, ap, _∙_}
-use mathlib.Core.List.{List}
 use mathlib.Core.Logic.{⊎-elim}
-use Prim.Native.Nat.{ℕ, _+_, _-_, _*_, _≤_, _<_}
+use Prim.Native.Nat.{_-_}
 use native.Mathlib.Omega.{arith}
-use borrow.Author.Needs.{needs}
 use lib.ListN.{length}
-use Rattle.smf.specs.Write.{over}
+use borrow.Author.Needs.{needs}
+use Rattle.smf.specs.Lists.{nextAt}
 use Rattle.base.specs.Rules.{rulesOf}
 use Rattle.track.specs.Cursor.{readerOf}
 use Rattle.track.specs.List.{capacity}
 use Rattle.track.proofs.Reading.{took}
-use Rattle.rows.specs.Rows.{width}
-use Rattle.rows.proofs.RowCells.{Laying, unread, laying-first, laying-length, laying-room, laying-more, laid}
+use Rattle.rows.specs.Read.{laidOf}
+use Rattle.rows.specs.declared.lists.Laid.{Laid}
+use Rattle.rows.proofs.RowCells.{Laying, unread, laying-first, laying-length, laying-more, laid, LaidOn, laid-on, laid-stop}
 use Rattle.rows.proofs.lists.lay_rows.Statement.{statement}
 use Rattle.rows.proofs.lists.lay_rows.Tie as tie
 
@@ -27,50 +27,61 @@ loop-holds c =
     let a = c .before .before .before .before .args in
     laying-first capacity (rulesOf (a .rules)) (a .raw .now) (a .at) (a .running .status) (a .rows .now) (sym (c .before .is-valid .ensures) ∙ c .if1 .taken)
 
--- the event is one of those that a list holds, and there are cells for it
-room : (c : tie.After-step Inv-loop μ-loop) → (c .before .before .before .loop .cursor .count < capacity)
-    × (c .before .before .before .loop .cursor .count * width + width ≤ length (c .before .before .before .loop .rows))
-room c =
-    let n = c .before .before in
-    let l = n .before .loop in
-    let e = c .step .given in (
-      took (l .inv .sofar) (n .next .result) (n .next .ensures) (e .0 .0) (e .1) .room,
-      laying-room (n .before .before .before .before .before .before .pre) (l .inv) (n .next .result) (n .next .ensures) (e .0 .0) (e .1),
-    )
+lay-next-requires : tie.Need-lay-next-requires Inv-loop μ-loop
+lay-next-requires c κs =
+    let l = c .before .loop in
+    let room = c .before .before .before .before .before .before .pre in
+    (l .inv .runs, omega (arith, laying-length room (l .inv), room))
 
-mul-put-row : tie.Need-mul-put-row Inv-loop μ-loop
-mul-put-row c = record { fits = omega (arith, room (c .before .before .before .before) .0) }
-
-put-row-requires : tie.Need-put-row-requires Inv-loop μ-loop
-put-row-requires c κs = room (c .before .before .before .before .before) .1
+-- a step that was laid, by what the list takes
+on : (c : tie.After-next Inv-loop μ-loop) →
+    let n = c .before .before .before .before in
+    let l = n .before .before in
+    let a = l .before .before .before .before .before .args in
+    LaidOn (nextAt (rulesOf (a .rules)) capacity (a .raw .now) (readerOf (l .loop .cursor))) (l .loop .cursor .count) (l .loop .rows) (n .lay-next .last .1 .1 .1 .0) (readerOf (c .next .given .0 .0))
+on c =
+    let n = c .before .before .before .before in
+    let l = n .before .before in
+    let a = l .before .before .before .before .before .args in
+    laid-on (nextAt (rulesOf (a .rules)) capacity (a .raw .now) (readerOf (l .loop .cursor))) (l .loop .cursor .count)
+    (ap (λ (m : Laid). laidOf m (n .lay-next .last .1 .1 .1 .0)) (sym (c .next .given .1)) ∙ n .lay-next .ensures)
 
 loop-less : tie.Need-loop-less Inv-loop μ-loop
 loop-less c =
-    let s = c .before .before .before .before .before .before .before .before .before in
-    let n = s .before .before in
-    let t = took (n .before .loop .inv .sofar) (n .next .result) (n .next .ensures) (s .step .given .0 .0) (s .step .given .1) in
+    let t = took (c .before .before .before .before .before .before .before .loop .inv .sofar) (on (c .before) .is) in
     omega (arith, t .moved, t .within)
 
 loop-again : tie.Need-loop-again Inv-loop μ-loop
 loop-again c =
-    let p = c .before .before .before in
-    let s = p .before .before .before .before .before .before in
-    let n = s .before .before in
-    let l = n .before .loop in
-    laying-more (n .before .before .before .before .before .before .pre) (l .inv) (n .next .result) (n .next .ensures) (s .step .given .0 .0) (s .step .given .1) _
-    (p .put-row .ensures ∙ ap (λ (x : List ℕ). over x (l .rows) (l .cursor .count * width)) (p .before .event-row .ensures))
+    let o = on (c .before) in
+    let l = c .before .before .before .before .before .before .before in
+    laying-more (l .before .before .before .before .before .pre) (l .loop .inv) (o .is) _ (o .put)
 
 same-length : tie.Need-same-length Inv-loop μ-loop
 same-length c =
     let j = c .before in
-    ⊎-elim (λ w. ap length (w .6) ∙ laying-length (j .before .before .before .before .pre) (w .1 .inv)) (λ w. ap length (w .1)) (j .if1 .came)
+    let s = j .before .before .before .before in
+    let a = s .args in
+    ⊎-elim
+    (λ w.
+    let stop = laid-stop (nextAt (rulesOf (a .rules)) capacity (a .raw .now) (readerOf (w .1 .cursor))) (w .1 .cursor .count)
+    (ap (λ (m : Laid). laidOf m (w .3 .last .1 .1 .1 .0)) (sym (w .7 .given .1)) ∙ w .3 .ensures)
+    in
+    ap length (w .9) ∙ ap length (stop .kept) ∙ laying-length (s .pre) (w .1 .inv))
+    (λ w. ap length (w .1))
+    (j .if1 .came)
 
 returns : tie.Need-returns Inv-loop μ-loop
 returns c =
     let j = c .before in
     let s = j .before .before .before .before in
     let a = s .args in
-    ⊎-elim (λ w. rw (w .6, w .7, w .8) (laid (s .pre) (w .1 .inv) (w .2 .result) (w .2 .ensures) (w .4 .given .0 .0) (w .4 .given .1)))
+    ⊎-elim
+    (λ w.
+    let stop = laid-stop (nextAt (rulesOf (a .rules)) capacity (a .raw .now) (readerOf (w .1 .cursor))) (w .1 .cursor .count)
+    (ap (λ (m : Laid). laidOf m (w .3 .last .1 .1 .1 .0)) (sym (w .7 .given .1)) ∙ w .3 .ensures)
+    in
+    rw (w .9, w .10, w .11, stop .kept) (laid (s .pre) (w .1 .inv) (stop .is)))
     (λ w. rw (w .1, w .2, w .3)
     (unread capacity (rulesOf (a .rules)) (a .raw .now) (a .at) (a .running .status) (a .rows .now) (sym (j .before .is-valid .ensures) ∙ w .0 .left)))
     (j .if1 .came)
@@ -83,12 +94,9 @@ lay-rows-spec =
     μ-loop
     (λ c κs. search needs)
     loop-holds
-    (λ c κs. search needs)
+    lay-next-requires
     (λ c. search needs)
     (λ c. search needs)
-    mul-put-row
-    (λ c κs. search needs)
-    put-row-requires
     loop-less
     loop-again
     same-length

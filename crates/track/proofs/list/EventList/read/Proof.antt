@@ -1,12 +1,12 @@
 -- The list reader meets its contract: an invalid running status, and its loop's turns and stops.
-use mathlib.Core.Path.{sym, _∙_}
+use mathlib.Core.Path.{sym, ap, _∙_}
 use mathlib.Core.Logic.{⊎-elim}
 use Prim.Native.Nat.{_-_, _<_}
 use native.Mathlib.Omega.{arith}
 use lib.ListN.{length}
 use borrow.Author.Needs.{needs}
 use Rattle.base.specs.Rules.{rulesOf}
-use Rattle.track.specs.Cursor.{readerOf}
+use Rattle.track.specs.Cursor.{readerOf, nextOf}
 use Rattle.track.specs.List.{capacity}
 use Rattle.track.proofs.Reading.{took}
 use Rattle.track.proofs.Filling.{Filling, invalid, filling-first, filled, filling-more}
@@ -31,7 +31,7 @@ loop-holds c =
 room : (c : tie.After-step Inv-loop μ-loop) → c .before .before .before .loop .cursor .count < capacity
 room c =
     let n = c .before .before in
-    took (n .before .loop .inv .sofar) (n .next .result) (n .next .ensures) (c .step .given .0 .0) (c .step .given .1) .room
+    took (n .before .loop .inv .sofar) (sym (n .next .ensures) ∙ ap nextOf (c .step .given .1)) .room
 
 mul-kept : tie.Need-mul-kept Inv-loop μ-loop
 mul-kept c = record { fits = omega (arith, room (c .before .before .before)) }
@@ -43,7 +43,7 @@ loop-less : tie.Need-loop-less Inv-loop μ-loop
 loop-less c =
     let s = c .before .before .before .before in
     let n = s .before .before in
-    let t = took (n .before .loop .inv .sofar) (n .next .result) (n .next .ensures) (s .step .given .0 .0) (s .step .given .1) in
+    let t = took (n .before .loop .inv .sofar) (sym (n .next .ensures) ∙ ap nextOf (s .step .given .1)) in
     omega (arith, t .moved, t .within)
 
 loop-again : tie.Need-loop-again Inv-loop μ-loop
