@@ -14,3 +14,4 @@ pub mod Writing
 pub mod Sizes
 pub mod Judging
 pub mod Identical
+pub mod Straight

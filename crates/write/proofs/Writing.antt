@@ -7,6 +7,8 @@ use native.Mathlib.Omega.{arith}
 use lib.ListN.{length, take, drop, getD, length-append, take-append-drop}
 use lib.Seq.{take-length}
 use Rattle.smf.specs.Answer.{Answer, gives}
+use Rattle.smf.specs.Wire.{rawEvent}
+use Rattle.smf.specs.Kind.{rawOf}
 use Rattle.smf.specs.Write.{over}
 use Rattle.smf.specs.Event.{Event, EventWritten, eventWritten, encodeEvent, eventAfter}
 use Rattle.smf.specs.Lists.{encodeList, listAfter}
@@ -16,6 +18,7 @@ use Rattle.smf.proofs.ListWrites.{encode-behind, after-behind}
 use Rattle.write.specs.Raw.{rawJudged}
 use Rattle.write.specs.Wrote.{wroteEvent, writeRaw}
 use Rattle.write.specs.ListAnswers.{RoomFor, InFront}
+use Rattle.write.specs.Direct.{RoomAt}
 use Rattle.write.specs.declared.answer.Past.{Past}
 use Rattle.write.specs.declared.answer.WriteRefused.{WriteRefused}
 use Rattle.write.specs.declared.answer.WroteEvent.{WroteEvent}
@@ -75,8 +78,8 @@ module _ (running : ℕ) (js : List (Answer (Event (List ℕ)))) (before : List 
         let all : take i (g .events) ≡ es = ap (λ (k : ℕ). take k (g .events)) (e ∙ counted) ∙ take-length (g .events) ∙ given-once (g .events) es (sym (g .legal) ∙ same) in
         g .buffer ∙ ap (λ (l : List (Event (List ℕ))). over (encodeList running l) before 0) all
 
-    -- the next event is written, wherever the code takes it from
-    module _ (d j : Answer (Event (List ℕ))) (there : getD js i d ≡ j) (more : i < length js) (r : WroteEvent) (end : List ℕ) (e : wroteEvent r end ≡ writeRaw status (rawJudged j) out place) where
+    -- the next event, wherever the code takes it from
+    module _ (d j : Answer (Event (List ℕ))) (there : getD js i d ≡ j) (more : i < length js) where
       next : (x : Event (List ℕ)) × (j ≡ gives x) × (take (i + 1) (g .events) ≡ take i (g .events) ++ (x ∷ []))
       next = given-at (g .events) i d j (omega (arith, counted)) (ap (λ (l : List (Answer (Event (List ℕ)))). getD l i d) (sym (g .legal)) ∙ there)
 
@@ -90,40 +93,49 @@ module _ (running : ℕ) (js : List (Answer (Event (List ℕ)))) (before : List 
       long : length (front (i + 1)) ≡ length (front i) + length (encodeEvent status whole)
       long = ap length onward ∙ length-append (front i) (encodeEvent status whole)
 
-      -- what is written
-      is : wroteEvent r end
-          ≡ record { written = record { buffer = over (encodeEvent status whole) out place; answer = gives (place + length (encodeEvent status whole)) }; running = eventAfter whole }
-      unfolding whole writeRaw encodeEvent rawJudged
-      is =
-          let fits : place + length (encodeEvent status whole) ≤ length out = omega (arith, going-length, g .stands, long, front-shorter (i + 1), g .room) in
-          e
-          ∙ ap (λ (y : Answer (Event (List ℕ))). writeRaw status (rawJudged y) out place) (next .1)
-          ∙ sym (ap (eventWritten status (eventAfter whole)) (put-fits (encodeEvent status whole) out place fits))
+      fits : place + length (encodeEvent status whole) ≤ length out
+      fits = omega (arith, going-length, g .stands, long, front-shorter (i + 1), g .room)
 
-      pub going-never : (n : WriteRefused) → r ≡ wrote.Refused n → ⊥
-      going-never n h =
-          let q = ap (λ (w : EventWritten). w .written .answer) (sym (ap (λ (x : WroteEvent). wroteEvent x end) h) ∙ is) in
-          let z : _≡_ {A = ℕ} 0 1 = cc in
-          omega arith
+      -- it was judged legal, and has room
+      pub going-room : RoomAt status (rawJudged j) place (length out)
+      unfolding whole encodeEvent rawJudged
+      going-room = (rawEvent (whole .delta) (rawOf (whole .kind)), ap rawJudged (next .1), fits)
 
-      pub going-more : (p : Past) → r ≡ wrote.Next p → Going end (p .next) (p .running .status) (i + 1)
-      unfolding whole
-      going-more p h =
-          let put = sym (ap (λ (x : WroteEvent). wroteEvent x end) h) ∙ is in
-          let at : place ≡ 0 + length (front i) = omega (arith, g .stands) in
-          let q : gives (p .next) ≡ gives (place + length (encodeEvent status whole)) = ap (λ (w : EventWritten). w .written .answer) put in
-          let on : p .next ≡ place + length (encodeEvent status whole) = cc in
-          record {
-            events = g .events;
-            legal = g .legal;
-            room = g .room;
-            within = omega (arith, counted);
-            stands = on ∙ omega (arith, g .stands, long);
-            after = ap (λ (w : EventWritten). w .running) put ∙ sym (ap (listAfter running) (next .2) ∙ after-behind running (take i (g .events)) (next .0));
-            buffer =
-                ap (λ (w : EventWritten). w .written .buffer) put
-                ∙ ap (λ (n : ℕ). over (encodeEvent status whole) out n) at
-                ∙ ap (λ (l : List ℕ). over (encodeEvent status whole) l (0 + length (front i))) (g .buffer)
-                ∙ over-over (front i) (encodeEvent status whole) before 0 (omega arith)
-                ∙ ap (λ (l : List ℕ). over l before 0) (sym onward);
-          }
+      -- and is written
+      module _ (r : WroteEvent) (end : List ℕ) (e : wroteEvent r end ≡ writeRaw status (rawJudged j) out place) where
+        -- what is written
+        is : wroteEvent r end
+            ≡ record { written = record { buffer = over (encodeEvent status whole) out place; answer = gives (place + length (encodeEvent status whole)) }; running = eventAfter whole }
+        unfolding whole writeRaw encodeEvent rawJudged
+        is =
+            e
+            ∙ ap (λ (y : Answer (Event (List ℕ))). writeRaw status (rawJudged y) out place) (next .1)
+            ∙ sym (ap (eventWritten status (eventAfter whole)) (put-fits (encodeEvent status whole) out place fits))
+
+        pub going-never : (n : WriteRefused) → r ≡ wrote.Refused n → ⊥
+        going-never n h =
+            let q = ap (λ (w : EventWritten). w .written .answer) (sym (ap (λ (x : WroteEvent). wroteEvent x end) h) ∙ is) in
+            let z : _≡_ {A = ℕ} 0 1 = cc in
+            omega arith
+
+        pub going-more : (p : Past) → r ≡ wrote.Next p → Going end (p .next) (p .running .status) (i + 1)
+        unfolding whole
+        going-more p h =
+            let put = sym (ap (λ (x : WroteEvent). wroteEvent x end) h) ∙ is in
+            let at : place ≡ 0 + length (front i) = omega (arith, g .stands) in
+            let q : gives (p .next) ≡ gives (place + length (encodeEvent status whole)) = ap (λ (w : EventWritten). w .written .answer) put in
+            let on : p .next ≡ place + length (encodeEvent status whole) = cc in
+            record {
+              events = g .events;
+              legal = g .legal;
+              room = g .room;
+              within = omega (arith, counted);
+              stands = on ∙ omega (arith, g .stands, long);
+              after = ap (λ (w : EventWritten). w .running) put ∙ sym (ap (listAfter running) (next .2) ∙ after-behind running (take i (g .events)) (next .0));
+              buffer =
+                  ap (λ (w : EventWritten). w .written .buffer) put
+                  ∙ ap (λ (n : ℕ). over (encodeEvent status whole) out n) at
+                  ∙ ap (λ (l : List ℕ). over (encodeEvent status whole) l (0 + length (front i))) (g .buffer)
+                  ∙ over-over (front i) (encodeEvent status whole) before 0 (omega arith)
+                  ∙ ap (λ (l : List ℕ). over l before 0) (sym onward);
+            }

@@ -4,3 +4,4 @@ pub mod Size
 pub mod Wrote
 pub mod ListAnswers
 pub mod Store
+pub mod Direct

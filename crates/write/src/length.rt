@@ -22,7 +22,7 @@ fn data_length(pair: bool) -> usize
 }
 
 // How many bytes a channel message has. Its status byte is left out exactly when it is the running status.
-fn channel_length(c: Channel, running: Running) -> usize
+pub fn channel_length(c: Channel, running: Running) -> usize
     ensures { λ r. ⌜ r ≡ length (statusBytes (running .status) (c .status)) + pick (c .pair) 2 1 ⌝ }
 {
     let n = data_length(c.pair);

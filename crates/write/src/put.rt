@@ -24,7 +24,7 @@ use number::payload::write_varlen_slice;
 use number::u28;
 
 // Puts a delta, and answers the place behind it. Most deltas are one byte, which is stored at once.
-fn put_delta(delta: u28, out: &mut [u8], at: usize) -> usize
+pub fn put_delta(delta: u28, out: &mut [u8], at: usize) -> usize
     requires { ⌜ (delta .0 < 2 ^ 28) × (at + length (encodeNumber (delta .0)) ≤ length (now out)) ⌝ }
     ensures { λ r. ⌜ Stored (now (out .entry)) at (encodeNumber (delta .0)) r (now (out .exit)) ⌝ }
 {
@@ -50,24 +50,26 @@ fn put_status(status: u8, running: Running, out: &mut [u8], at: usize) -> usize
     at + 1
 }
 
-// Puts the one or two data bytes of a channel message.
-fn put_data(bytes: Channel, out: &mut [u8], at: usize)
+// Puts the one or two data bytes of a channel message, and answers the place behind them.
+fn put_data(bytes: Channel, out: &mut [u8], at: usize) -> usize
     requires { ⌜ at + length (dataBytes bytes) ≤ length (now out) ⌝ }
-    ensures { λ r. ⌜ now (out .exit) ≡ over (dataBytes bytes) (now (out .entry)) at ⌝ }
+    ensures { λ r. ⌜ Stored (now (out .entry)) at (dataBytes bytes) r (now (out .exit)) ⌝ }
 {
     out[at] = bytes.a;
     if bytes.pair {
         out[at + 1] = bytes.b;
+        return at + 2;
     }
+    at + 1
 }
 
-// Puts a channel message.
-fn put_channel(bytes: Channel, running: Running, out: &mut [u8], at: usize)
+// Puts a channel message, and answers the place behind it.
+pub fn put_channel(bytes: Channel, running: Running, out: &mut [u8], at: usize) -> usize
     requires { ⌜ at + length (encodeRaw (running .status) (channelRaw bytes)) ≤ length (now out) ⌝ }
-    ensures { λ r. ⌜ now (out .exit) ≡ over (encodeRaw (running .status) (channelRaw bytes)) (now (out .entry)) at ⌝ }
+    ensures { λ r. ⌜ Stored (now (out .entry)) at (encodeRaw (running .status) (channelRaw bytes)) r (now (out .exit)) ⌝ }
 {
     let place = put_status(bytes.status, running, out, at);
-    put_data(bytes, out, place);
+    put_data(bytes, out, place)
 }
 
 // Puts a byte and a payload behind it.
@@ -113,7 +115,9 @@ fn put_body(raw: Raw, running: Running, bytes: &[u8], out: &mut [u8], at: usize)
     ensures { λ r. ⌜ now (out .exit) ≡ over (encodeRaw (running .status) (wireOf (now (bytes .entry)) raw)) (now (out .entry)) at ⌝ }
 {
     match raw {
-        Raw::Channel(c) => put_channel(c, running, out, at),
+        Raw::Channel(c) => {
+            put_channel(c, running, out, at);
+        }
         Raw::System(status, load) => put_load(status, bytes, load, out, at),
         Raw::Typed(type_byte, load) => put_typed(type_byte, bytes, load, out, at),
         Raw::Fixed(type_byte, own) => put_fixed(type_byte, own, out, at),

@@ -20,14 +20,15 @@ pub struct Channel {
     pub b: u8,
 }
 
-// A payload that stands in no bytes lent: the first n of five bytes.
+// A payload that stands in no bytes lent: the first n of five bytes. The bytes stand first, so that n lies where the
+// length of a `Range` does: with n first the compiler stores byte by byte what it then loads as one word.
 pub struct Own {
-    pub n: usize,
     pub a: u8,
     pub b: u8,
     pub c: u8,
     pub d: u8,
     pub e: u8,
+    pub n: usize,
 }
 
 // What stands behind the delta.

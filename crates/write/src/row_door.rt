@@ -46,7 +46,7 @@ pub struct Data {
 }
 
 // No branch depends on the number where it need not: which message comes next cannot be foreseen.
-fn data_of(number: u64, a: u64, b: u64) -> Data
+pub fn data_of(number: u64, a: u64, b: u64) -> Data
     ensures { λ r. ⌜ r ≡ dataOf number a b ⌝ }
 {
     if number == 14 {

@@ -1,15 +1,12 @@
-// A list of rows, measured, and written into a lent buffer from its first byte on: each row through its door, with no
+// A list of rows, measured, and written into a lent buffer from its first byte on: each row where it stands, with no
 // event made. A row that is not all there is no event's, as any other that is none: 18.
 ghost use mathlib.Core.Path.{_≡_};
-ghost use Prim.Native.Nat.{_+_, _*_, _≤_};
-ghost use lib.ListN.{take, drop, length};
+ghost use Prim.Native.Nat.{_≤_};
+ghost use lib.ListN.{take, length};
 ghost use Rattle.smf.specs.Lists.{check, sizeChecked, sizeList, writeList};
 ghost use Rattle.base.specs.Rules.{rulesOf};
 ghost use Rattle.track.specs.List.{capacity};
-ghost use Rattle.rows.specs.Rows.{width};
-ghost use Rattle.rows.specs.RowEvent.{rowJudged};
 ghost use Rattle.rows.specs.RowLists.{rowsJudged};
-ghost use Rattle.write.specs.Raw.{judgedSaid, rawJudged};
 ghost use Rattle.write.specs.ListAnswers.{sizeSaid, wroteList, RoomFor, InFront};
 use crate::answer::EventLength;
 use crate::answer::ListLength;
@@ -17,43 +14,14 @@ use crate::answer::ListRefused;
 use crate::answer::Size;
 use crate::answer::WroteEvent;
 use crate::answer::WroteList;
-use crate::raw::Judged;
-use crate::row_door::row_raw;
-use crate::step::measured;
+use crate::direct::measure_at;
+use crate::direct::write_at;
 use crate::step::refused;
-use crate::step::written;
 use base::Refusal;
 use base::Rules;
 use base::Running;
 use rows::WIDTH;
 use track::list::CAPACITY;
-
-// The cells of a row that is all there.
-fn cells_at(rows: &[u64], at: usize) -> [u64; WIDTH]
-    requires { ⌜ at + width ≤ length (now rows) ⌝ }
-    ensures { λ r. ⌜ r ≡ take width (drop at (now (rows .entry))) ⌝ }
-{
-    let mut row = [0u64; WIDTH];
-    let mut i: usize = 0;
-    while i < WIDTH {
-        row[i] = rows[at + i];
-        i += 1;
-    }
-    row
-}
-
-// The row that starts at a cell, through its door.
-fn judge_at(rows: &[u64], at: usize, rules: Rules, bytes: &[u8]) -> Judged
-    ensures { λ r. ⌜ judgedSaid (now (bytes .entry)) r ≡ rawJudged (rowJudged (rulesOf rules) (now (bytes .entry)) (take width (drop at (now (rows .entry))))) ⌝ }
-{
-    if rows.len() < WIDTH {
-        return Judged::Refused(Refusal::AboveWidth);
-    }
-    if rows.len() - WIDTH < at {
-        return Judged::Refused(Refusal::AboveWidth);
-    }
-    row_raw(cells_at(rows, at), rules, bytes)
-}
 
 // How long the events of so many rows are, no more than a list holds; or the first that is illegal.
 fn measure_rows(
@@ -70,8 +38,7 @@ fn measure_rows(
     let mut status = running.status;
     let mut index: usize = 0;
     while index < count {
-        let judged = judge_at(rows, index * WIDTH, rules, bytes);
-        match measured(judged, Running { status }, bytes) {
+        match measure_at(rows, index * WIDTH, Running { status }, rules, bytes) {
             EventLength::Refused(refusal) => {
                 return ListLength::Refused(ListRefused {
                     refusal,
@@ -128,8 +95,15 @@ fn put_rows(
     let mut status = running.status;
     let mut index: usize = 0;
     while index < count {
-        let judged = judge_at(rows, index * WIDTH, rules, bytes);
-        match written(judged, Running { status }, bytes, out, place) {
+        match write_at(
+            rows,
+            index * WIDTH,
+            Running { status },
+            rules,
+            bytes,
+            out,
+            place,
+        ) {
             WroteEvent::Refused(_) => return, // never: each was measured
             WroteEvent::Next(past) => {
                 place = past.next;

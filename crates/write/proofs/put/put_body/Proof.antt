@@ -43,7 +43,7 @@ put-fixed-requires c κs = let s = c .before .before .before .before .before .be
 
 returns : tie.Need-returns
 unfolding wireOf
-returns c = rw (c .before .before .before .before .before .raw .given .1) (c .before .before .put-channel .ensures)
+returns c = rw (c .before .before .before .before .before .raw .given .1) (c .before .before .put-channel .ensures .buffer)
 
 returns-2 : tie.Need-returns-2
 unfolding wireOf encodeRaw

@@ -30,9 +30,13 @@ returns : tie.Need-returns
 returns c =
     let d = c .before .before .before .before .before .before .before .before .before in
     let s = c .before .before .before .before .before .before .put-status .ensures in
+    let p = c .before .before .put-data .ensures in
     let some = data-some (d .args .bytes) in
     rw (channel-wire (d .args .running .status) (d .args .bytes))
-    (c .before .before .put-data .ensures ∙ rw (s .0, s .1) (over-status (d .args .running .status) (d .args .bytes .status) (dataBytes (d .args .bytes)) (d .args .out .now) (d .args .at) (omega (arith, room d, some)) some))
+    (record {
+      place = omega (arith, p .place, s .0, length-append (statusBytes (d .args .running .status) (d .args .bytes .status)) (dataBytes (d .args .bytes)));
+      buffer = p .buffer ∙ rw (s .0, s .1) (over-status (d .args .running .status) (d .args .bytes .status) (dataBytes (d .args .bytes)) (d .args .out .now) (d .args .at) (omega (arith, room d, some)) some);
+    })
 
 pub put-channel-spec : {M : Type 1} → statement M
 put-channel-spec =

@@ -13,7 +13,6 @@ use Rattle.rows.specs.RowEvent.{rowJudged}
 use Rattle.rows.specs.Rows.{width}
 use Rattle.write.specs.Size.{sizeJudged, lengthSaid}
 use Rattle.write.proofs.Judging.{rowsCounted, rows-counted, row-counted, row-lawful}
-use Rattle.write.proofs.Doors.{row-number, told}
 use Rattle.write.proofs.Measuring.{Seen, seen-first, seen-last, seen-illegal, seen-most, seen-more}
 use Rattle.write.proofs.row_lists.measure_rows.Statement.{statement}
 use Rattle.write.proofs.row_lists.measure_rows.Tie as tie
@@ -28,47 +27,44 @@ abbrev μ-loop : tie.MeasureT-loop
 loop-holds : tie.Need-loop-holds Inv-loop μ-loop
 loop-holds c = (omega arith, seen-first _ _)
 
-measured-requires : tie.Need-measured-requires Inv-loop μ-loop
-measured-requires c κs = told _ _ (row-number _ _ _) (c .judge-at .result) (c .judge-at .ensures)
-
 -- the row that is measured is one that counts
-inside : (c : tie.After-measured Inv-loop μ-loop) → let l = c .before .before .before .loop in let a = c .before .before .before .before .before .before .args in l .index < length (rowsCounted (rulesOf (a .rules)) (a .bytes .now) (a .count) (a .rows .now))
+inside : (c : tie.After-measure-at Inv-loop μ-loop) → let l = c .before .before .loop in let a = c .before .before .before .before .before .args in l .index < length (rowsCounted (rulesOf (a .rules)) (a .bytes .now) (a .count) (a .rows .now))
 inside c =
-    let l = c .before .before .before .loop in
-    let a = c .before .before .before .before .before .before .args in
-    omega (arith, rows-counted (rulesOf (a .rules)) (a .bytes .now) (a .count) (a .rows .now), c .before .before .loop-test .taken)
+    let l = c .before .before .loop in
+    let a = c .before .before .before .before .before .args in
+    omega (arith, rows-counted (rulesOf (a .rules)) (a .bytes .now) (a .count) (a .rows .now), c .before .loop-test .taken)
 
-there : (c : tie.After-measured Inv-loop μ-loop) → let l = c .before .before .before .loop in let a = c .before .before .before .before .before .before .args in getD (rowsCounted (rulesOf (a .rules)) (a .bytes .now) (a .count) (a .rows .now)) (l .index) (refuses 0) ≡ rowJudged (rulesOf (a .rules)) (a .bytes .now) (take width (drop (l .index * width) (a .rows .now)))
+there : (c : tie.After-measure-at Inv-loop μ-loop) → let l = c .before .before .loop in let a = c .before .before .before .before .before .args in getD (rowsCounted (rulesOf (a .rules)) (a .bytes .now) (a .count) (a .rows .now)) (l .index) (refuses 0) ≡ rowJudged (rulesOf (a .rules)) (a .bytes .now) (take width (drop (l .index * width) (a .rows .now)))
 there c =
-    let l = c .before .before .before .loop in
-    let a = c .before .before .before .before .before .before .args in
-    row-counted (rulesOf (a .rules)) (a .bytes .now) (a .count) (a .rows .now) (l .index) (refuses 0) (c .before .before .loop-test .taken)
+    let l = c .before .before .loop in
+    let a = c .before .before .before .before .before .args in
+    row-counted (rulesOf (a .rules)) (a .bytes .now) (a .count) (a .rows .now) (l .index) (refuses 0) (c .before .loop-test .taken)
 
-said : (c : tie.After-measured Inv-loop μ-loop) → let l = c .before .before .before .loop in let a = c .before .before .before .before .before .before .args in lengthSaid (c .measured .result) ≡ sizeJudged (l .status) (rowJudged (rulesOf (a .rules)) (a .bytes .now) (take width (drop (l .index * width) (a .rows .now))))
+said : (c : tie.After-measure-at Inv-loop μ-loop) → let l = c .before .before .loop in let a = c .before .before .before .before .before .args in lengthSaid (c .measure-at .result) ≡ sizeJudged (l .status) (rowJudged (rulesOf (a .rules)) (a .bytes .now) (take width (drop (l .index * width) (a .rows .now))))
 unfolding sizeJudged
-said c = rw (← c .before .judge-at .ensures) (c .measured .ensures)
+said c = c .measure-at .ensures
 
 returns : tie.Need-returns Inv-loop μ-loop
 returns c =
     let m = c .before .before .before in
-    let l = m .before .before .before .loop in
-    let a = m .before .before .before .before .before .before .args in
-    seen-illegal (a .running .status) (rowsCounted (rulesOf (a .rules)) (a .bytes .now) (a .count) (a .rows .now)) (l .inv .1) (inside m) (refuses 0) _ (there m) (m .measured .result) (said m) (c .before .refusal .given .0 .0) (c .before .refusal .given .1)
+    let l = m .before .before .loop in
+    let a = m .before .before .before .before .before .args in
+    seen-illegal (a .running .status) (rowsCounted (rulesOf (a .rules)) (a .bytes .now) (a .count) (a .rows .now)) (l .inv .1) (inside m) (refuses 0) _ (there m) (m .measure-at .result) (said m) (c .before .refusal .given .0 .0) (c .before .refusal .given .1)
 
 add-length : tie.Need-add-length Inv-loop μ-loop
 add-length c =
     let m = c .before .before .before .before in
-    let l = m .before .before .before .loop in
-    let a = m .before .before .before .before .before .before .args in
-    let most = seen-most (a .running .status) (rowsCounted (rulesOf (a .rules)) (a .bytes .now) (a .count) (a .rows .now)) (l .inv .1) (inside m) (refuses 0) _ (there m) (m .measured .result) (said m) (rulesOf (a .rules)) (row-lawful (rulesOf (a .rules)) (a .bytes .now) (take width (drop (l .index * width) (a .rows .now)))) (c .before .before .size .given .0 .0) (c .before .before .size .given .1) in
-    omega (arith, most, l .inv .1 .small, m .before .before .before .before .before .before .pre)
+    let l = m .before .before .loop in
+    let a = m .before .before .before .before .before .args in
+    let most = seen-most (a .running .status) (rowsCounted (rulesOf (a .rules)) (a .bytes .now) (a .count) (a .rows .now)) (l .inv .1) (inside m) (refuses 0) _ (there m) (m .measure-at .result) (said m) (rulesOf (a .rules)) (row-lawful (rulesOf (a .rules)) (a .bytes .now) (take width (drop (l .index * width) (a .rows .now)))) (c .before .before .size .given .0 .0) (c .before .before .size .given .1) in
+    omega (arith, most, l .inv .1 .small, m .before .before .before .before .before .pre)
 
 loop-again : tie.Need-loop-again Inv-loop μ-loop
 loop-again c =
     let m = c .before .before .before .before in
-    let l = m .before .before .before .loop in
-    let a = m .before .before .before .before .before .before .args in
-    (omega arith, seen-more (a .running .status) (rowsCounted (rulesOf (a .rules)) (a .bytes .now) (a .count) (a .rows .now)) (l .inv .1) (inside m) (refuses 0) _ (there m) (m .measured .result) (said m) (rulesOf (a .rules)) (row-lawful (rulesOf (a .rules)) (a .bytes .now) (take width (drop (l .index * width) (a .rows .now)))) (c .before .before .size .given .0 .0) (c .before .before .size .given .1))
+    let l = m .before .before .loop in
+    let a = m .before .before .before .before .before .args in
+    (omega arith, seen-more (a .running .status) (rowsCounted (rulesOf (a .rules)) (a .bytes .now) (a .count) (a .rows .now)) (l .inv .1) (inside m) (refuses 0) _ (there m) (m .measure-at .result) (said m) (rulesOf (a .rules)) (row-lawful (rulesOf (a .rules)) (a .bytes .now) (take width (drop (l .index * width) (a .rows .now)))) (c .before .before .size .given .0 .0) (c .before .before .size .given .1))
 
 returns-2 : tie.Need-returns-2 Inv-loop μ-loop
 returns-2 c =
@@ -85,7 +81,6 @@ measure-rows-spec =
     loop-holds
     (λ c. search needs)
     (λ c κs. search needs)
-    measured-requires
     (λ c. search needs)
     returns
     (λ c. search needs)

@@ -8,8 +8,7 @@ use Rattle.smf.specs.Answer.{refuses}
 use Rattle.base.specs.Rules.{rulesOf}
 use Rattle.track.specs.List.{capacity}
 use Rattle.write.proofs.Judging.{rowsCounted, rows-counted, row-counted}
-use Rattle.write.proofs.Doors.{row-number, told}
-use Rattle.write.proofs.Writing.{Going, going-first, going-length, going-last, going-more, going-never}
+use Rattle.write.proofs.Writing.{Going, going-first, going-length, going-last, going-room, going-more, going-never}
 use Rattle.write.proofs.row_lists.put_rows.Statement.{statement}
 use Rattle.write.proofs.row_lists.put_rows.Tie as tie
 
@@ -23,35 +22,36 @@ abbrev μ-loop : tie.MeasureT-loop
 loop-holds : tie.Need-loop-holds Inv-loop μ-loop
 loop-holds c = let p = c .before .before .before .pre in (omega arith, going-first _ _ _ (p .1))
 
-written-requires : tie.Need-written-requires Inv-loop μ-loop
-written-requires c κs = told _ _ (row-number _ _ _) (c .before .judge-at .result) (c .before .judge-at .ensures)
+write-at-requires : tie.Need-write-at-requires Inv-loop μ-loop
+write-at-requires c κs =
+    let l = c .before .before .loop in
+    let a = c .before .before .before .before .before .before .args in
+    let i = c .before .loop-test .taken in
+    going-room (a .running .status) (rowsCounted (rulesOf (a .rules)) (a .bytes .now) (a .count) (a .rows .now)) (a .out .now) (l .inv .1) (refuses 0) _ (row-counted (rulesOf (a .rules)) (a .bytes .now) (a .count) (a .rows .now) (l .index) (refuses 0) i) (omega (arith, i, rows-counted (rulesOf (a .rules)) (a .bytes .now) (a .count) (a .rows .now)))
 
 same-length : tie.Need-same-length Inv-loop μ-loop
 same-length c =
     let m = c .before .before .before .before in
-    let l = m .before .before .before .before .loop in
-    let a = m .before .before .before .before .before .before .before .before .args in
-    let i = m .before .before .before .loop-test .taken in
-    let said = rw (m .before .before .judge-at .ensures) at (m .written .ensures) in
-    absurd (going-never (a .running .status) (rowsCounted (rulesOf (a .rules)) (a .bytes .now) (a .count) (a .rows .now)) (a .out .now) (l .inv .1) (refuses 0) _ (row-counted (rulesOf (a .rules)) (a .bytes .now) (a .count) (a .rows .now) (l .index) (refuses 0) i) (omega (arith, i, rows-counted (rulesOf (a .rules)) (a .bytes .now) (a .count) (a .rows .now))) (m .written .result) _ said _ (c .enum-told .given .1))
+    let l = m .before .before .before .loop in
+    let a = m .before .before .before .before .before .before .before .args in
+    let i = m .before .before .loop-test .taken in
+    absurd (going-never (a .running .status) (rowsCounted (rulesOf (a .rules)) (a .bytes .now) (a .count) (a .rows .now)) (a .out .now) (l .inv .1) (refuses 0) _ (row-counted (rulesOf (a .rules)) (a .bytes .now) (a .count) (a .rows .now) (l .index) (refuses 0) i) (omega (arith, i, rows-counted (rulesOf (a .rules)) (a .bytes .now) (a .count) (a .rows .now))) (m .write-at .result) _ (m .write-at .ensures) _ (c .enum-told .given .1))
 
 returns : tie.Need-returns Inv-loop μ-loop
 returns c =
     let m = c .before .before .before .before in
-    let l = m .before .before .before .before .loop in
-    let a = m .before .before .before .before .before .before .before .before .args in
-    let i = m .before .before .before .loop-test .taken in
-    let said = rw (m .before .before .judge-at .ensures) at (m .written .ensures) in
-    absurd (going-never (a .running .status) (rowsCounted (rulesOf (a .rules)) (a .bytes .now) (a .count) (a .rows .now)) (a .out .now) (l .inv .1) (refuses 0) _ (row-counted (rulesOf (a .rules)) (a .bytes .now) (a .count) (a .rows .now) (l .index) (refuses 0) i) (omega (arith, i, rows-counted (rulesOf (a .rules)) (a .bytes .now) (a .count) (a .rows .now))) (m .written .result) _ said _ (c .enum-told .given .1))
+    let l = m .before .before .before .loop in
+    let a = m .before .before .before .before .before .before .before .args in
+    let i = m .before .before .loop-test .taken in
+    absurd (going-never (a .running .status) (rowsCounted (rulesOf (a .rules)) (a .bytes .now) (a .count) (a .rows .now)) (a .out .now) (l .inv .1) (refuses 0) _ (row-counted (rulesOf (a .rules)) (a .bytes .now) (a .count) (a .rows .now) (l .index) (refuses 0) i) (omega (arith, i, rows-counted (rulesOf (a .rules)) (a .bytes .now) (a .count) (a .rows .now))) (m .write-at .result) _ (m .write-at .ensures) _ (c .enum-told .given .1))
 
 loop-again : tie.Need-loop-again Inv-loop μ-loop
 loop-again c =
     let m = c .before .before .before .before .before in
-    let l = m .before .before .before .before .loop in
-    let a = m .before .before .before .before .before .before .before .before .args in
-    let i = m .before .before .before .loop-test .taken in
-    let said = rw (m .before .before .judge-at .ensures) at (m .written .ensures) in
-    (omega arith, going-more (a .running .status) (rowsCounted (rulesOf (a .rules)) (a .bytes .now) (a .count) (a .rows .now)) (a .out .now) (l .inv .1) (refuses 0) _ (row-counted (rulesOf (a .rules)) (a .bytes .now) (a .count) (a .rows .now) (l .index) (refuses 0) i) (omega (arith, i, rows-counted (rulesOf (a .rules)) (a .bytes .now) (a .count) (a .rows .now))) (m .written .result) _ said (c .before .past .given .0 .0) (c .before .past .given .1))
+    let l = m .before .before .before .loop in
+    let a = m .before .before .before .before .before .before .before .args in
+    let i = m .before .before .loop-test .taken in
+    (omega arith, going-more (a .running .status) (rowsCounted (rulesOf (a .rules)) (a .bytes .now) (a .count) (a .rows .now)) (a .out .now) (l .inv .1) (refuses 0) _ (row-counted (rulesOf (a .rules)) (a .bytes .now) (a .count) (a .rows .now) (l .index) (refuses 0) i) (omega (arith, i, rows-counted (rulesOf (a .rules)) (a .bytes .now) (a .count) (a .rows .now))) (m .write-at .result) _ (m .write-at .ensures) (c .before .past .given .0 .0) (c .before .past .given .1))
 
 same-length-2 : tie.Need-same-length-2 Inv-loop μ-loop
 same-length-2 c = let l = c .before .loop in going-length _ _ _ (l .inv .1)
@@ -70,8 +70,7 @@ put-rows-spec =
     μ-loop
     loop-holds
     (λ c. search needs)
-    (λ c κs. search needs)
-    written-requires
+    write-at-requires
     (λ c. search needs)
     same-length
     returns

@@ -3,8 +3,8 @@ use Prim.Native.Nat.{_-_}
 use borrow.Author.Needs.{needs}
 use Rattle.rows.specs.Rows.{width}
 use Rattle.rows.proofs.Copying.{Copied, copied-first, copied-more, copied-all}
-use Rattle.write.proofs.row_lists.cells_at.Statement.{statement}
-use Rattle.write.proofs.row_lists.cells_at.Tie as tie
+use Rattle.write.proofs.direct.cells_at.Statement.{statement}
+use Rattle.write.proofs.direct.cells_at.Tie as tie
 
 abbrev Inv-loop : tie.InvT-loop
 Inv-loop rows at row₀ i₀ row i = Copied rows at row i
