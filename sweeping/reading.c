@@ -30,12 +30,12 @@ static uint64_t rows[MOST_BYTES][APK_CELLS];  /* of the track as it is: its even
 static struct reader before[MOST_BYTES + 1];  /* the reader before each of them, and where it stopped, */
 static uint32_t holder[MOST_BYTES];           /* and which of those holds a place, the last one what is left */
 
-/* What is known of a place and a running status, of the track as it is read from there on. */
+/* What was found out of a place and a running status, where the track as it is is read from there on. */
 struct onward {
-    struct stop stop;     /* where it stops, with the events from there on, */
-    uint8_t stop_known;   /* if that was found out */
-    uint8_t same;         /* whether its events are the same as the track's own, */
-    uint32_t same_behind; /* from behind so many less one on; 0 if that was not found out */
+    struct stop stop;     /* where it stops, and how many events that is, */
+    uint8_t stop_known;   /* if it was found out */
+    uint8_t same;         /* whether its events are those that the track has behind so many, */
+    uint32_t same_behind; /* one more than so many; 0 if nothing was found out */
 };
 
 static struct onward *onwards;
