@@ -1,21 +1,29 @@
 /* The readers and writers of events and lists once more, in plain C with no proof, as one would write them to be fast: what
  * the machine can do with the same bytes and the same rows. bench/run measures them beside the port, and asserts that they
- * give the same rows and the same bytes.
+ * give the same rows, the same padding and the same bytes.
  *
  * Reading is lenient. What a refused call leaves is not looked after: no measurement comes there. */
 #include <string.h>
 
 #include "apkarewe.h"
 
+static inline size_t number_length(uint64_t value) {
+    return 1 + (value >= 1 << 7) + (value >= 1 << 14) + (value >= 1 << 21);
+}
+
 /* Reading -------------------------------------------------------------------------------------------------------- */
 
-/* The place behind the number at a place that is there. */
-static inline size_t number_at(const uint8_t *bytes, size_t length, size_t at, uint32_t *value) {
+/* The place behind the number at a place that is there; its padding is added. A byte by itself has none. */
+static inline size_t number_at(const uint8_t *bytes, size_t length, size_t at, uint32_t *value, size_t *padding) {
+    size_t start = at;
     uint32_t byte = bytes[at++];
     uint32_t bits = byte & 0x7F;
     for (int more = 3; byte >= 0x80 && more > 0 && at < length; more--) {
         byte = bytes[at++];
         bits = bits << 7 | (byte & 0x7F);
+    }
+    if (at - start > 1) {
+        *padding += at - start - number_length(bits);
     }
     *value = bits;
     return at;
@@ -60,7 +68,8 @@ static uint8_t read_meta(uint8_t type, const uint8_t *p, size_t start, size_t n,
 }
 
 /* What stands behind the delta of an event that is no channel message. */
-static uint8_t read_other(const uint8_t *bytes, size_t length, size_t at, uint8_t status, uint64_t *row, size_t *next) {
+static uint8_t read_other(const uint8_t *bytes, size_t length, size_t at, uint8_t status, uint64_t *row, size_t *next,
+                          size_t *padding) {
     uint32_t n = 0;
     uint8_t type = 0;
     if (status != 0xF0 && status != 0xF7 && status != 0xFF) {
@@ -72,7 +81,7 @@ static uint8_t read_other(const uint8_t *bytes, size_t length, size_t at, uint8_
         }
         type = bytes[at++];
     }
-    at = at < length ? number_at(bytes, length, at, &n) : at;
+    at = at < length ? number_at(bytes, length, at, &n, padding) : at;
     n = n <= length - at ? n : (uint32_t)(length - at);
     *next = at + n;
     if (status == 0xFF) {
@@ -82,9 +91,11 @@ static uint8_t read_other(const uint8_t *bytes, size_t length, size_t at, uint8_
     return 0;
 }
 
-static inline uint8_t read_event(const uint8_t *bytes, size_t length, size_t at, uint8_t *running, uint64_t *row, size_t *next) {
+/* The event at a place that is there; its padding is added. */
+static inline uint8_t read_event(const uint8_t *bytes, size_t length, size_t at, uint8_t *running, uint64_t *row,
+                                 size_t *next, size_t *padding) {
     uint32_t delta;
-    at = number_at(bytes, length, at, &delta);
+    at = number_at(bytes, length, at, &delta, padding);
     row[APK_DELTA] = delta;
     if (at == length) {
         return APK_NO_STATUS;
@@ -93,7 +104,7 @@ static inline uint8_t read_event(const uint8_t *bytes, size_t length, size_t at,
     at += bytes[at] >= 0x80;
     if (status >= 0xF0) {
         *running = 0;
-        return read_other(bytes, length, at, status, row, next);
+        return read_other(bytes, length, at, status, row, next, padding);
     }
     size_t pair = status >> 5 != 6;
     if (status == 0 || length - at < 1 + pair) {
@@ -111,9 +122,10 @@ static inline uint8_t read_event(const uint8_t *bytes, size_t length, size_t at,
 }
 
 uint8_t plain_event_read(const uint8_t *bytes, size_t length, size_t at, uint8_t running, uint8_t rules, uint64_t *row,
-                         size_t *used, uint8_t *after) {
+                         size_t *used, uint8_t *after, size_t *padding) {
     size_t next = at;
-    uint8_t answer = at < length ? read_event(bytes, length, at, &running, row, &next) : APK_NO_STATUS;
+    *padding = 0;
+    uint8_t answer = at < length ? read_event(bytes, length, at, &running, row, &next, padding) : APK_NO_STATUS;
     (void)rules;
     *used = next - at;
     *after = running;
@@ -121,28 +133,27 @@ uint8_t plain_event_read(const uint8_t *bytes, size_t length, size_t at, uint8_t
 }
 
 uint8_t plain_list_read(const uint8_t *bytes, size_t length, size_t at, uint8_t running, uint8_t rules, uint64_t *rows,
-                        size_t cells, size_t *count, size_t *place, uint8_t *after) {
-    size_t n = 0;
+                        size_t cells, size_t *count, size_t *place, uint8_t *after, size_t *padding) {
+    size_t n = 0, sum = 0;
     uint8_t answer = 0;
     (void)rules, (void)cells;
     while (at < length && answer == 0) {
+        size_t padded = 0;
         if (n == APK_LIST_ROWS) {
             answer = APK_FULL;
-        } else if ((answer = read_event(bytes, length, at, &running, rows + n * APK_CELLS, &at)) == 0) {
+        } else if ((answer = read_event(bytes, length, at, &running, rows + n * APK_CELLS, &at, &padded)) == 0) {
             n++;
+            sum += padded;
         }
     }
     *count = n;
     *place = at;
     *after = running;
+    *padding = sum;
     return answer;
 }
 
 /* Writing -------------------------------------------------------------------------------------------------------- */
-
-static inline size_t number_length(uint64_t value) {
-    return 1 + (value >= 1 << 7) + (value >= 1 << 14) + (value >= 1 << 21);
-}
 
 static inline uint8_t *put_number(uint8_t *out, uint32_t value) {
     switch (number_length(value)) {

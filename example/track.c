@@ -1,4 +1,5 @@
-/* Reads the events of a MIDI track strictly, prints them, writes them back, and says whether the bytes are the same.
+/* Reads the events of a MIDI track strictly, prints them, says how many of the bytes are padding, writes the events
+ * back, and says whether the bytes are the same.
  * usage: track FILE    the bytes of one track, behind MTrk and its length; at most 65,536
  * Exit status: 0 all read and the same bytes written; 1 anything else of the track; 2 the file is none, or too long. */
 #include <inttypes.h>
@@ -102,12 +103,12 @@ int main(int words, char **word) {
     size_t length = (size_t)loaded;
 
     /* A list holds APK_LIST_ROWS events. A full one is printed and written, and reading goes on behind it. */
-    size_t place = 0, events = 0, written = 0;
+    size_t place = 0, events = 0, padding = 0, written = 0;
     uint8_t running = 0, out_running = 0, stopped;
     do {
-        size_t count = 0;
+        size_t count = 0, padded = 0;
         stopped = apk_list_read(bytes, length, place, running, APK_STRICT, rows, APK_LIST_CELLS,
-                                &count, &place, &running);
+                                &count, &place, &running, &padded);
         for (size_t i = 0; i < count; i++) {
             print_event(events + i, rows + i * APK_CELLS);
         }
@@ -119,10 +120,11 @@ int main(int words, char **word) {
             return 1;
         }
         events += count;
+        padding += padded;
         written += more;
     } while (stopped == APK_FULL);
 
-    printf("%zu events, %zu of %zu bytes read\n", events, place, length);
+    printf("%zu events, %zu of %zu bytes read, %zu of them padding\n", events, place, length, padding);
     if (stopped != APK_ACCEPTED) {
         printf("refused at byte %zu: %u, %s\n", place, (unsigned)stopped, apk_reading[stopped]);
     }

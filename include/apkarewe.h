@@ -22,6 +22,11 @@
  * The running status is the status byte that the next event may leave out: 0x80 to 0xEF, or 0 for none. A track begins
  * with none. Any other number is an invalid running status, which reading and writing refuse by 1.
  *
+ * Padding. A number of a track may use more bytes than it needs, as 80 00 does for 0, which is read as any other. Its
+ * padding is the bytes used less the fewest that hold the value, and 0 where no byte was there; an event's is the sum
+ * over its delta and, where it has one, its payload's length; a list's is the sum over its events. What is written has
+ * none: read strictly, its padding is 0.
+ *
  * What is proved. Of each entry, for all numbers and bytes that it can be given: it ends, it reads and writes within
  * the slices only, its answer is the one that its definition gives, and so is what each lent value and each lent byte
  * holds at the end, after a refusal too. The definition is named with each entry: smf.Lists.listAt is listAt in
@@ -145,13 +150,14 @@ enum apk_kind {
  *   count        how many events were read
  *   place        the place of the next unread byte; after a refusal, of the refused event
  *   after        the running status there
+ *   padding      the sum over the events that were read; a refused one adds nothing
  * Answers why it stopped: 0 at the end of the bytes; APK_FULL, and the list goes on at *place from *after; 1 to 14
- * where an event was refused, and the events before it stand: rows, count, place and after are set as ever. 20 where
- * the cells are too few for the events read, and only then everything is as it came.
+ * where an event was refused, and the events before it stand: rows, count, place, after and padding are set as ever. 20
+ * where the cells are too few for the events read, and only then everything is as it came.
  * Payloads are start and length in these bytes, which are not copied. An empty slice is an empty list.
  * Definition: smf.Lists.listAt, laid out by rows.Sheet.sheetOf. */
 uint8_t apk_list_read(const uint8_t *bytes, size_t bytes_len, size_t at, uint8_t running, uint8_t rules,
-                      uint64_t *rows, size_t cells, size_t *count, size_t *place, uint8_t *after);
+                      uint64_t *rows, size_t cells, size_t *count, size_t *place, uint8_t *after, size_t *padding);
 
 /* How many bytes so many rows have when written from a running status.
  *   rows, cells           the rows; those past the count are not looked at
@@ -185,12 +191,13 @@ uint8_t apk_list_same(const uint64_t *rows_a, size_t cells_a, size_t count_a,
 
 /* Single events -------------------------------------------------------------------------------------------------- */
 
-/* Reads the event at a place, from a running status: its row, how many bytes it uses, the running status after it.
- * Refuses 1 to 14; then the row is as it came, *used is 0, and *after the running status that the refused event leaves:
- * as given for 1, 4 to 7, and for 2 and 3 in a delta; its own status for 8 and 9; none for the others.
+/* Reads the event at a place, from a running status: its row, how many bytes it uses, the running status after it, its
+ * padding. Refuses 1 to 14; then the row is as it came, *used and *padding are 0, whatever was read of the event, and
+ * *after is the running status that it leaves: as given for 1, 4 to 7, and for 2 and 3 in a delta; its own status for 8
+ * and 9; none for the others.
  * Definition: smf.Event.eventAt, laid out by rows.Rows.eventRow. */
 uint8_t apk_event_read(const uint8_t *bytes, size_t bytes_len, size_t at, uint8_t running, uint8_t rules,
-                       uint64_t row[APK_CELLS], size_t *used, uint8_t *after);
+                       uint64_t row[APK_CELLS], size_t *used, uint8_t *after, size_t *padding);
 
 /* How many bytes a row's event has when written from a running status, and the running status after it.
  * Refuses 1, 18, 19, 22, 23; then both are as they came. Definition: write.Size.sizeEvent of the row's event. */
@@ -244,10 +251,10 @@ uint8_t apk_sounding_silence(const uint8_t table[APK_TABLE_BYTES], uint8_t chann
 
 /* Numbers and payloads ------------------------------------------------------------------------------------------- */
 
-/* Reads the variable-length number at a place: its value, and the place after it. Refuses 2, 3.
+/* Reads the variable-length number at a place: its value, the place after it, and its padding. Refuses 2, 3.
  * Definition: smf.Place.numberAt. */
 uint8_t apk_number_read(const uint8_t *bytes, size_t bytes_len, size_t at, uint8_t rules,
-                        uint32_t *value, size_t *next);
+                        uint32_t *value, size_t *next, size_t *padding);
 
 /* How many bytes the shortest form of a number has, 1 to 4; 4 above 268,435,455. Refuses nothing.
  * Definition: the length of smf.Number.encodeNumber. */
@@ -257,10 +264,11 @@ size_t apk_number_length(uint32_t value);
  * Definition: smf.Write.write of smf.Write.numberBytes. */
 uint8_t apk_number_write(uint32_t value, uint8_t *out, size_t out_len, size_t at, size_t *next);
 
-/* Reads the payload at a place, a number and so many bytes: where these start, and how many. The place after them is
- * the sum. Refuses 2, 3, 11. Definition: smf.Place.payloadAt. */
+/* Reads the payload at a place, a number and so many bytes: where these start, how many there are, and the padding of
+ * the number, also where lenient reading takes fewer bytes than it says. The place after them is the sum of start and
+ * length. Refuses 2, 3, 11. Definition: smf.Place.payloadAt. */
 uint8_t apk_payload_read(const uint8_t *bytes, size_t bytes_len, size_t at, uint8_t rules,
-                         size_t *start, size_t *length);
+                         size_t *start, size_t *length, size_t *padding);
 
 /* Writes a range of the payload bytes, with its number in front, at a place of out: *next is the place after it.
  * Refuses 19, 22, 20. Definition: smf.Write.write of smf.Write.payloadBytes. */

@@ -43,9 +43,9 @@ static struct onward *passed[MOST_BYTES + 1]; /* on the way to something that is
 
 /* Reads the next event of some bytes. Where one is refused, the number is answered and the reader stays. */
 static uint8_t next_event(const uint8_t *bytes, struct reader *reader, uint64_t *row) {
-    size_t used = 0;
+    size_t used = 0, padding = 0; /* padding is not looked at: only what is read counts here */
     uint8_t after = 0;
-    uint8_t answer = apk_event_read(bytes, length, reader->at, reader->running, rules, row, &used, &after);
+    uint8_t answer = apk_event_read(bytes, length, reader->at, reader->running, rules, row, &used, &after, &padding);
     if (answer == APK_ACCEPTED) {
         reader->at += (uint32_t)used;
         reader->events++;

@@ -10,6 +10,7 @@ mod kinds;
 mod listing;
 mod lists;
 mod numbers;
+mod padding;
 mod port;
 mod random;
 mod refusal;

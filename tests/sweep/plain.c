@@ -28,9 +28,9 @@ static void read_all(struct track *track) {
     uint8_t running = 0;
     track->events = track->at = 0;
     do {
-        size_t count = 0;
+        size_t count = 0, padding = 0; /* padding is not looked at, as in ./sweep */
         track->answer = apk_list_read(track->bytes, length, track->at, running, rules, track->rows[track->events],
-                                      APK_LIST_CELLS, &count, &track->at, &running);
+                                      APK_LIST_CELLS, &count, &track->at, &running, &padding);
         track->events += count;
     } while (track->answer == APK_FULL);
 }

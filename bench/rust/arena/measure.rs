@@ -52,11 +52,11 @@ fn port_events(entries: Entries, bytes: &[u8]) -> usize {
     let (mut at, mut running, mut count) = (0, 0, 0);
     let mut row = [0; port::WIDTH];
     while at < bytes.len() {
-        let (answer, used, after) = entries.event_read(bytes, at, running, &mut row);
+        let (answer, used, after, padding) = entries.event_read(bytes, at, running, &mut row);
         if answer != 0 {
             break;
         }
-        black_box(&row);
+        black_box((&row, padding));
         at += used;
         running = after;
         count += 1;
@@ -114,8 +114,8 @@ fn port_lists(entries: Entries, bytes: &[u8]) -> usize {
     let (mut at, mut running, mut count) = (0, 0, 0);
     let mut rows = [[0; port::WIDTH]; port::CAPACITY];
     loop {
-        let (answer, n, place, after) = entries.list_read(bytes, at, running, &mut rows);
-        black_box(&rows);
+        let (answer, n, place, after, padding) = entries.list_read(bytes, at, running, &mut rows);
+        black_box((&rows, padding));
         count += n;
         at = place;
         running = after;
@@ -172,21 +172,38 @@ fn line(what: &str, track: &Track, events: usize, [rust, port, plain]: [f64; 3])
     );
 }
 
-/// The rows of a track.
+/// The rows of a track, and the padding of each.
 #[inline(always)]
-fn rows_of(entries: Entries, bytes: &[u8]) -> Vec<port::Row> {
-    let (mut at, mut running, mut rows) = (0, 0, Vec::new());
+fn rows_of(entries: Entries, bytes: &[u8]) -> (Vec<port::Row>, Vec<usize>) {
+    let (mut at, mut running, mut rows, mut paddings) = (0, 0, Vec::new(), Vec::new());
     while at < bytes.len() {
         let mut row = [0; port::WIDTH];
-        let (answer, used, after) = entries.event_read(bytes, at, running, &mut row);
+        let (answer, used, after, padding) = entries.event_read(bytes, at, running, &mut row);
         if answer != 0 {
             break;
         }
         rows.push(row);
+        paddings.push(padding);
         at += used;
         running = after;
     }
-    rows
+    (rows, paddings)
+}
+
+/// The padding of a track, list by list.
+#[inline(always)]
+fn padding_of(entries: Entries, bytes: &[u8]) -> usize {
+    let (mut at, mut running, mut sum) = (0, 0, 0);
+    let mut rows = [[0; port::WIDTH]; port::CAPACITY];
+    loop {
+        let (answer, _, place, after, padding) = entries.list_read(bytes, at, running, &mut rows);
+        sum += padding;
+        at = place;
+        running = after;
+        if answer != port::FULL {
+            return sum;
+        }
+    }
 }
 
 fn all(bytes: &[u8]) -> (Vec<TrackEvent>, Vec<port::Row>) {
@@ -197,9 +214,12 @@ fn all(bytes: &[u8]) -> (Vec<TrackEvent>, Vec<port::Row>) {
             Err(_) => break,
         }
     }
-    let rows = rows_of(PORT, bytes);
+    let read = rows_of(PORT, bytes);
+    assert!(read == rows_of(PLAIN, bytes));
+    let (rows, paddings) = read;
     assert_eq!(events.len(), rows.len());
-    assert!(rows == rows_of(PLAIN, bytes));
+    let sum = paddings.iter().sum::<usize>();
+    assert!(padding_of(PORT, bytes) == sum && padding_of(PLAIN, bytes) == sum);
     (events, rows)
 }
 

@@ -1,11 +1,13 @@
 //! The entries as C sees them, twice: the port's, and those of bench/plain.c. An answer is a byte in a register whose
 //! other bits may be anything.
 
-type EventRead = unsafe extern "C" fn(*const u8, usize, usize, u8, u8, *mut Row, *mut usize, *mut u8) -> u32;
+type EventRead =
+    unsafe extern "C" fn(*const u8, usize, usize, u8, u8, *mut Row, *mut usize, *mut u8, *mut usize) -> u32;
 type EventWrite =
     unsafe extern "C" fn(*const Row, *const u8, usize, u8, u8, *mut u8, usize, usize, *mut usize, *mut u8) -> u32;
-type ListRead =
-    unsafe extern "C" fn(*const u8, usize, usize, u8, u8, *mut u64, usize, *mut usize, *mut usize, *mut u8) -> u32;
+type ListRead = unsafe extern "C" fn(
+    *const u8, usize, usize, u8, u8, *mut u64, usize, *mut usize, *mut usize, *mut u8, *mut usize,
+) -> u32;
 type ListWrite = unsafe extern "C" fn(
     *const u64, usize, usize, *const u8, usize, u8, u8, *mut u8, usize, *mut usize, *mut u8, *mut usize,
 ) -> u32;
@@ -16,7 +18,7 @@ macro_rules! entries {
             $(
                 fn $event_read(
                     bytes: *const u8, length: usize, at: usize, running: u8, rules: u8,
-                    row: *mut Row, used: *mut usize, after: *mut u8,
+                    row: *mut Row, used: *mut usize, after: *mut u8, padding: *mut usize,
                 ) -> u32;
                 fn $event_write(
                     row: *const Row, payload: *const u8, payload_length: usize, running: u8, rules: u8,
@@ -25,6 +27,7 @@ macro_rules! entries {
                 fn $list_read(
                     bytes: *const u8, length: usize, at: usize, running: u8, rules: u8,
                     rows: *mut u64, cells: usize, count: *mut usize, place: *mut usize, after: *mut u8,
+                    padding: *mut usize,
                 ) -> u32;
                 fn $list_write(
                     rows: *const u64, cells: usize, count: usize, payload: *const u8, payload_length: usize,
@@ -77,13 +80,16 @@ pub const FULL: u8 = 255;
 pub type Row = [u64; WIDTH];
 
 impl Entries {
-    /// The event at a place: the answer, the bytes used and the running status after it.
+    /// The event at a place: the answer, the bytes used, the running status after it and its padding.
     #[inline(always)]
-    pub fn event_read(self, bytes: &[u8], at: usize, running: u8, row: &mut Row) -> (u8, usize, u8) {
-        let (mut used, mut after) = (0, 0);
-        let answer =
-            unsafe { (self.event_read)(bytes.as_ptr(), bytes.len(), at, running, RULES, row, &mut used, &mut after) };
-        (answer as u8, used, after)
+    pub fn event_read(self, bytes: &[u8], at: usize, running: u8, row: &mut Row) -> (u8, usize, u8, usize) {
+        let (mut used, mut after, mut padding) = (0, 0, 0);
+        let answer = unsafe {
+            (self.event_read)(
+                bytes.as_ptr(), bytes.len(), at, running, RULES, row, &mut used, &mut after, &mut padding,
+            )
+        };
+        (answer as u8, used, after, padding)
     }
 
     #[inline(always)]
@@ -97,17 +103,20 @@ impl Entries {
         (answer as u8, next, after)
     }
 
-    /// The list at a place: the answer, the count, the place after it and the running status there.
+    /// The list at a place: the answer, the count, the place after it, the running status there and its padding.
     #[inline(always)]
-    pub fn list_read(self, bytes: &[u8], at: usize, running: u8, rows: &mut [Row; CAPACITY]) -> (u8, usize, usize, u8) {
-        let (mut count, mut place, mut after) = (0, 0, 0);
+    pub fn list_read(
+        self, bytes: &[u8], at: usize, running: u8, rows: &mut [Row; CAPACITY],
+    ) -> (u8, usize, usize, u8, usize) {
+        let (mut count, mut place, mut after, mut padding) = (0, 0, 0, 0);
         let answer = unsafe {
             let cells = rows.as_mut_ptr() as *mut u64;
             (self.list_read)(
-                bytes.as_ptr(), bytes.len(), at, running, RULES, cells, WIDTH * CAPACITY, &mut count, &mut place, &mut after,
+                bytes.as_ptr(), bytes.len(), at, running, RULES, cells, WIDTH * CAPACITY,
+                &mut count, &mut place, &mut after, &mut padding,
             )
         };
-        (answer as u8, count, place, after)
+        (answer as u8, count, place, after, padding)
     }
 
     /// So many rows written: the answer, the length and the running status after them.

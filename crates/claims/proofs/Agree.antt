@@ -21,3 +21,8 @@ module _ {A B C D E : Type 0} {x y s : A} {u v t : B} {l m k : C} {f g h : D} {b
   pub agree₅ : (x ≡ s) × ((u ≡ t) × ((l ≡ k) × ((f ≡ h) × (b ≡ d)))) → (y ≡ s) × ((v ≡ t) × ((m ≡ k) × ((g ≡ h) × (c ≡ d))))
       → (x & u & l & f & b) ≡ (y & v & m & g & c)
   agree₅ p q = joined (p .0 ∙ sym (q .0), agree₄ (p .1) (q .1))
+
+module _ {A B C D E F : Type 0} {x y s : A} {u v t : B} {l m k : C} {f g h : D} {b c d : E} {i j n : F} where
+  pub agree₆ : (x ≡ s) × ((u ≡ t) × ((l ≡ k) × ((f ≡ h) × ((b ≡ d) × (i ≡ n))))) → (y ≡ s) × ((v ≡ t) × ((m ≡ k) × ((g ≡ h) × ((c ≡ d) × (j ≡ n)))))
+      → (x & u & l & f & b & i) ≡ (y & v & m & g & c & j)
+  agree₆ p q = joined (p .0 ∙ sym (q .0), agree₅ (p .1) (q .1))

@@ -13,6 +13,7 @@ use Rattle.claims.proofs.Point2.{point-2}
 use Rattle.claims.proofs.Point3.{writes}
 use Rattle.claims.proofs.Point3Calls.{point-3}
 use Rattle.claims.proofs.Sounding.{sounding}
+use Rattle.claims.proofs.Padding.{padding, entry-padding}
 use Rattle.claims.proofs.SmfForms.{smf-forms}
 use Rattle.claims.proofs.Literals.{literals}
 
@@ -35,4 +36,6 @@ all =
       smf-forms = smf-forms;
       literals = literals;
       sounding = sounding;
+      padding = padding;
+      entry-padding = entry-padding;
     }

@@ -37,7 +37,7 @@ unfolding ahead
 ahead-bytes zero v = tt
 ahead-bytes (suc k) v = pick-both Bytes (eqb v 0) tt (both-bytes (ahead k (v / 128)) _ (ahead-bytes k (v / 128)) (omega arith, tt))
 
-number-bytes : (v : ℕ) → Bytes (encodeNumber v)
+pub number-bytes : (v : ℕ) → Bytes (encodeNumber v)
 unfolding encodeNumber
 number-bytes v = both-bytes (ahead 3 (v / 128)) _ (ahead-bytes 3 (v / 128)) (omega arith, tt)
 

@@ -18,7 +18,7 @@ use Rattle.loader_track.proofs.Identical.{handed-identical}
 use Rattle.player.specs.Answers.{Beside}
 use Rattle.player.specs.Entries.{CellsLeft}
 use Rattle.claims.specs.Calls.{first, second, third, fourth, fifth, sixth, seventh}
-use Rattle.claims.proofs.Agree.{joined, agree₂, agree₃, agree₄, agree₅}
+use Rattle.claims.proofs.Agree.{joined, agree₂, agree₃, agree₄, agree₅, agree₆}
 use Rattle.claims.specs.Entries.{NumberEntries, HeaderEntries, TimeEntries, BendEntries, EventEntries, ListEntries, Sameness, SoundingEntries, Sheets, HandedOver, Entries}
 
 rulesOf-injective : {x y : Rules} → rulesOf x ≡ rulesOf y → x ≡ y
@@ -28,10 +28,10 @@ numbers : NumberEntries
 numbers =
     record {
       rules = λ κs a y z d e p q. rulesOf-injective (p ∙ sym q);
-      number-read = λ κs a y z d e p q. agree₃ p q;
+      number-read = λ κs a y z d e p q. agree₄ p q;
       number-length = λ κs a y z d e p q. p ∙ sym q;
       number-write = λ κs a y z d e p q. agree₃ p q;
-      payload-read = λ κs a y z d e p q. agree₃ p q;
+      payload-read = λ κs a y z d e p q. agree₄ p q;
       payload-write = λ κs a y z d e p q. agree₃ p q;
     }
 
@@ -75,7 +75,7 @@ bends =
 events : EventEntries
 events =
     record {
-      event-read = λ κs a y z d e p q. agree₄ p q;
+      event-read = λ κs a y z d e p q. agree₅ p q;
       event-length = λ κs a y z d e p q. agree₃ p q;
       event-write = λ κs a y z d e p q. agree₄ p q;
     }
@@ -83,7 +83,7 @@ events =
 lists : ListEntries
 lists =
     record {
-      list-read = λ κs a y z d e p q. agree₅ p q;
+      list-read = λ κs a y z d e p q. agree₆ p q;
       list-length = λ κs a y z d e p q. agree₄ p q;
       list-write = λ κs a y z d e p q. agree₅ p q;
     }

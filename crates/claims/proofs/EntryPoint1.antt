@@ -12,7 +12,7 @@ use lib.ListN.{length, drop}
 use denote.Ref.{now}
 use Rattle.smf.specs.Answer.{Answer, gives, refuses, andThen, Rules}
 use Rattle.smf.specs.Number.{readNumber}
-use Rattle.smf.specs.Place.{NumberAt, Span, numberAt, payloadAt}
+use Rattle.smf.specs.Place.{NumberAt, PayloadAt, numberAt, payloadAt}
 use Rattle.smf.specs.Write.{put, write, numberBytes, payloadBytes}
 use Rattle.smf.specs.Header.{isFormat, toFormat, readFormat, readTiming, encodeTiming}
 use Rattle.smf.specs.Smpte.{Time, time, toRate, codeOfRate, toTime, timeOf, encodeTime, position}
@@ -34,7 +34,7 @@ use Rattle.loader.specs.Entry.{fromBits, answered, leaves}
 use Rattle.loader.specs.Fields.{encodeFormat, timingGiven, ticksOf, timingRate, subframeOf}
 use Rattle.loader.specs.Smpte.{timeGiven, sixOf}
 use Rattle.event.specs.Lent.{readRunning}
-use Rattle.loader_track.specs.Events.{readAnswered, readRow, readUsed}
+use Rattle.loader_track.specs.Events.{readAnswered, readRow, readUsed, readPadding}
 use Rattle.loader_track.specs.Lists.{stopNumber, listGiven, readAnswer}
 use Rattle.player.specs.Sounding.{silence}
 use Rattle.player.specs.Entries.{tableIn, rowsAccepted}
@@ -55,7 +55,7 @@ numbers =
     record {
       number-read = λ κs a r e told.
           let rules = fromBits (third a) in
-          keeps₂ (ofNumber (rules .strict)) (numberAt rules (now (first a)) (second a)) (λ (n : NumberAt). n .value) (λ (n : NumberAt). n .next) _ _
+          keeps₃ (ofNumber (rules .strict)) (numberAt rules (now (first a)) (second a)) (λ (n : NumberAt). n .value) (λ (n : NumberAt). n .next) (λ (n : NumberAt). n .padding) _ _ _
           (number-at-by rules (now (first a)) (second a)) told;
       number-write = λ κs a r e told.
           let own = numberBytes (first a) in
@@ -63,7 +63,7 @@ numbers =
           (write-keeps (18 ∷ 20 ∷ []) own (now (second a)) (third a) (by-more (18 ∷ 20 ∷ []) (18 ∷ []) own refl (number-bytes-by (first a))) refl) told;
       payload-read = λ κs a r e told.
           let rules = fromBits (third a) in
-          keeps₂ (ofPayload (rules .strict)) (payloadAt rules (now (first a)) (second a)) (λ (s : Span). s .start) (λ (s : Span). s .length) _ _
+          keeps₃ (ofPayload (rules .strict)) (payloadAt rules (now (first a)) (second a)) (λ (p : PayloadAt). p .span .start) (λ (p : PayloadAt). p .span .length) (λ (p : PayloadAt). p .padding) _ _ _
           (payload-at-by rules (now (first a)) (second a)) told;
       payload-write = λ κs a r e told.
           let own = payloadBytes (now (first a)) (second a) (third a) in
@@ -156,10 +156,10 @@ bends =
 module _ (rules : Rules) (bytes : List ℕ) (running at : ℕ) (row : List ℕ) where
   event-outcome : (x : ReadAt) → EventOrLeft rules bytes running at x
       → Outcome (ofEvent (rules .strict)) (readAnswered x) ((0 < readUsed x) × (at + readUsed x ≤ length bytes))
-      ((readRow x row ≡ row) × (readUsed x ≡ 0) × (readRunning x ≡ statusLeft running (readNumber rules (drop at bytes)) (readAnswered x)))
+      ((readRow x row ≡ row) × (readUsed x ≡ 0) × (readRunning x ≡ statusLeft running (readNumber rules (drop at bytes)) (readAnswered x)) × (readPadding x ≡ 0))
   event-outcome (readsAt a) l = l
-  event-outcome (refusedAt zero used after) l = absurd (true≢false (sym (l .0)))
-  event-outcome (refusedAt (suc n) used after) l = (l .0, (refl, l .1, l .2))
+  event-outcome (refusedAt zero used after padding) l = absurd (true≢false (sym (l .0)))
+  event-outcome (refusedAt (suc n) used after padding) l = (l .0, (refl, l .1, l .2, l .3))
 
 -- a list, read
 module _ (l : ListAt) (cells : List ℕ) where
@@ -187,7 +187,7 @@ tracks =
     record {
       event-read = λ κs a r e told.
           let rules = fromBits (fourth a) in
-          rw (told .0, told .1 .0, told .1 .1 .0, told .1 .1 .1)
+          rw (told .0, told .1 .0, told .1 .1 .0, told .1 .1 .1 .0, told .1 .1 .1 .1)
           (event-outcome rules (now (first a)) (third a) (second a) (now (fifth a)) (eventAt rules (third a) (now (first a)) (second a))
           (event-or-left rules (now (first a)) (third a) (second a)));
       event-length = λ κs a r e told.
@@ -214,10 +214,10 @@ tracks =
             record {
               fits = λ h.
                   let t = rw (← put-fits put (now (fifth a)) 0 (omega (arith, h))) at told in
-                  record { answer = t .0; cells = t .1 .0; many = t .1 .1 .0; reached = t .1 .1 .1 .0; status = t .1 .1 .1 .1 };
+                  record { answer = t .0; cells = t .1 .0; many = t .1 .1 .0; reached = t .1 .1 .1 .0; status = t .1 .1 .1 .1 .0; padded = t .1 .1 .1 .1 .1 };
               short = λ h.
                   let t = rw (← put-full put (now (fifth a)) 0 (omega (arith, h))) at told in
-                  (t .0, t .1 .0, t .1 .1 .0, t .1 .1 .1 .0, t .1 .1 .1 .1);
+                  (t .0, t .1 .0, t .1 .1 .0, t .1 .1 .1 .0, t .1 .1 .1 .1 .0, t .1 .1 .1 .1 .1);
             },
           );
     }

@@ -1,11 +1,11 @@
 -- Point 3 of the entries, proved: what they leave is what the definitions do, of which it holds.
 use mathlib.Core.Path.{_≡_, refl, sym, ap, _∙_, subst}
 use mathlib.Core.Bool.{Bool, true}
-use mathlib.Core.List.{List, [], _∷_, _++_, map, append-assoc}
+use mathlib.Core.List.{List, [], _∷_, _++_, map}
 use Prim.Native.Nat.{ℕ, zero, suc, _+_, _*_, _≤_}
 use native.Mathlib.Omega.{arith}
-use lib.ListN.{length, take, drop, length-map, length-take, length-append}
-use lib.Seq.{take-at, drop-at, take-length, length-take-le}
+use lib.ListN.{length, take, drop, length-map, length-take}
+use lib.Seq.{take-length}
 use denote.Ref.{now}
 use Rattle.smf.specs.Place.{bytesOf}
 use Rattle.smf.specs.Answer.{Answer, gives, refuses, Rules, strictOf}
@@ -36,11 +36,12 @@ use Rattle.claims.proofs.Refusals.{row-by}
 use Rattle.claims.proofs.EventWrites.{event-wrote}
 use Rattle.claims.proofs.Carried.{rows-carry, fits-as-bytes}
 use Rattle.claims.proofs.ReadAgain.{left, own, read, Again, again}
+use Rattle.claims.proofs.SmfForms.{over-between}
 use Rattle.claims.proofs.EntryWrites.{EventPut, event-put, ListPut, list-put}
 
 -- rows that are given are the events that they are over the bytes
 module _ (rules : Rules) (bytes : List ℕ) where
-  row-itself : (r : List ℕ) (e : Event (List ℕ)) → rowJudged rules bytes r ≡ gives e → (e ≡ mapEvent (bytesOf bytes) (calledRow r)) × (isLegal rules e ≡ true)
+  pub row-itself : (r : List ℕ) (e : Event (List ℕ)) → rowJudged rules bytes r ≡ gives e → (e ≡ mapEvent (bytesOf bytes) (calledRow r)) × (isLegal rules e ≡ true)
   unfolding rowJudged eventOfRow
   row-itself r e h =
       by-test (isRow r) (λ t. given-itself rules bytes (calledRow r) e (rw t at h))
@@ -58,14 +59,15 @@ module _ (rules : Rules) (bytes : List ℕ) where
       (ap (λ (l : List (Event (List ℕ))). mapEvent (bytesOf bytes) (calledRow (take width cells)) ∷ l) (rows-themselves n (drop width cells) es behind))
 
 -- what `apk_list_read` promises
-abbrev ReadTold : Rules → ℕ → List ℕ → ℕ → List ℕ → ℕ → ℕ → ℕ → ℕ → List ℕ → ℕ → ℕ → ℕ → Type 0
-ReadTold rules running raw at cells c p a r cells′ c′ p′ a′ =
+abbrev pub ReadTold : Rules → ℕ → List ℕ → ℕ → List ℕ → ℕ → ℕ → ℕ → ℕ → ℕ → List ℕ → ℕ → ℕ → ℕ → ℕ → Type 0
+ReadTold rules running raw at cells c p a d r cells′ c′ p′ a′ d′ =
     let l = listAt rules capacity running raw at in
     (r ≡ readAnswer l cells)
     × ((cells′ ≡ sheetPut l cells .buffer)
     × ((c′ ≡ leaves (λ (k : ℕ). length (l .events)) (sheetPut l cells .answer) c)
     × ((p′ ≡ leaves (λ (k : ℕ). l .place) (sheetPut l cells .answer) p)
-    × (a′ ≡ leaves (λ (k : ℕ). l .running) (sheetPut l cells .answer) a))))
+    × ((a′ ≡ leaves (λ (k : ℕ). l .running) (sheetPut l cells .answer) a)
+    × (d′ ≡ leaves (λ (k : ℕ). l .padding) (sheetPut l cells .answer) d)))))
 
 -- rows that were written, read into cells again
 module _ (rules : Rules) (running : ℕ) (payload rows : List ℕ) (count : ℕ) (out : List ℕ) (n : ℕ) where
@@ -96,15 +98,24 @@ module _ (rules : Rules) (running : ℕ) (payload rows : List ℕ) (count : ℕ)
         let there = g .there ∙ rows-themselves rules payload count rows (g .events) (g .legal) in
         rw (take-length (back .events), there, as-many) refl
 
-    rows-back : (cells : List ℕ) (c p a : ℕ) {r c′ p′ a′ : ℕ} {cells′ : List ℕ} → count * width ≤ length cells
-        → ReadTold (strictOf rules) running raw 0 cells c p a r cells′ c′ p′ a′ → Back cells c p a r cells′ c′ p′ a′
-    rows-back cells c p a room told =
-        let fit : 0 + length (sheetOf (back .events)) ≤ length cells = omega (arith, room, sheet-length (back .events), ap (λ (k : ℕ). k * width) as-many) in
-        let t = rw (← put-fits (sheetOf (back .events)) cells 0 fit) at told in
+    fit : (cells : List ℕ) → count * width ≤ length cells → 0 + length (sheetOf (back .events)) ≤ length cells
+    fit cells room = omega (arith, room, sheet-length (back .events), ap (λ (k : ℕ). k * width) as-many)
+
+    -- its padding is none
+    rows-unpadded : (cells : List ℕ) (c p a d : ℕ) {r c′ p′ a′ d′ : ℕ} {cells′ : List ℕ} → count * width ≤ length cells
+        → ReadTold (strictOf rules) running raw 0 cells c p a d r cells′ c′ p′ a′ d′ → d′ ≡ 0
+    rows-unpadded cells c p a d room told =
+        let t = rw (← put-fits (sheetOf (back .events)) cells 0 (fit cells room)) at told in
+        t .1 .1 .1 .1 .1 ∙ g .padding
+
+    rows-back : (cells : List ℕ) (c p a d : ℕ) {r c′ p′ a′ d′ : ℕ} {cells′ : List ℕ} → count * width ≤ length cells
+        → ReadTold (strictOf rules) running raw 0 cells c p a d r cells′ c′ p′ a′ d′ → Back cells c p a r cells′ c′ p′ a′
+    rows-back cells c p a d room told =
+        let t = rw (← put-fits (sheetOf (back .events)) cells 0 (fit cells room)) at told in
         record {
           ended = rw (g .stop) at (t .0);
           reached = t .1 .1 .1 .0 ∙ g .place;
-          status = t .1 .1 .1 .1 ∙ g .status;
+          status = t .1 .1 .1 .1 .0 ∙ g .status;
           events = back .events;
           handed = t .1 .0;
           many = t .1 .1 .0 ∙ as-many;
@@ -123,23 +134,24 @@ module _ (rules : Rules) (running : ℕ) (payload rows : List ℕ) (count : ℕ)
       let says = list-write-says rules capacity running judged (rows-lawful rules payload count rows) count out in
       fits-as-bytes payload are rules capacity running judged count out (rows-carry payload are rules count rows) (says .accepts .0 (n, ap (λ (l : ListWritten). l .answer) is))
 
-  entry-again : (raw : List ℕ) (at running′ : ℕ) (rules′ : Rules) (cells : List ℕ) (c p a : ℕ) {r c′ p′ a′ : ℕ} {cells′ : List ℕ}
-      → ReadTold rules′ running′ raw at cells c p a r cells′ c′ p′ a′ → raw ≡ take n end → at ≡ 0 → running′ ≡ running → rules′ .strict ≡ true
+  pub entry-unpadded : (raw : List ℕ) (at running′ : ℕ) (rules′ : Rules) (cells : List ℕ) (c p a d : ℕ) {r c′ p′ a′ d′ : ℕ} {cells′ : List ℕ}
+      → ReadTold rules′ running′ raw at cells c p a d r cells′ c′ p′ a′ d′ → raw ≡ take n end → at ≡ 0 → running′ ≡ running → rules′ ≡ strictOf rules
+      → count * width ≤ length cells → d′ ≡ 0
+  entry-unpadded raw at running′ rules′ cells c p a d told′ q at-first same strictly room =
+      let g = again rules capacity running _ count out n (rows-lawful rules payload count rows) (ap (λ (l : ListWritten). l .answer) is) in
+      let own : raw ≡ take n (writeList capacity running (rowsJudged rules payload count rows) count out .buffer) = q ∙ sym (ap (λ (l : ListWritten). take n (l .buffer)) is) in
+      rows-unpadded rules running payload rows count out n g cells c p a d room (rw (own, at-first, same, strictly) at told′)
+
+  entry-again : (raw : List ℕ) (at running′ : ℕ) (rules′ : Rules) (cells : List ℕ) (c p a d : ℕ) {r c′ p′ a′ d′ : ℕ} {cells′ : List ℕ}
+      → ReadTold rules′ running′ raw at cells c p a d r cells′ c′ p′ a′ d′ → raw ≡ take n end → at ≡ 0 → running′ ≡ running → rules′ .strict ≡ true
       → count * width ≤ length cells
       → RowsBack n after payload rows count raw
       (record { before = cells; after = cells′ }) (record { before = c; after = c′ }) (record { before = p; after = p′ }) (record { before = a; after = a′ }) r
-  entry-again raw at running′ rules′ cells c p a told′ q at-first same strict room =
+  entry-again raw at running′ rules′ cells c p a d told′ q at-first same strict room =
       let g = again rules capacity running _ count out n (rows-lawful rules payload count rows) (ap (λ (l : ListWritten). l .answer) is) in
       let strictly : rules′ ≡ strictOf rules = ap (λ (b : Bool). record { strict = b }) strict in
       let own : raw ≡ take n (writeList capacity running (rowsJudged rules payload count rows) count out .buffer) = q ∙ sym (ap (λ (l : ListWritten). take n (l .buffer)) is) in
-      rw (own, sym (ap (λ (l : ListWritten). l .running) is)) (rows-back rules running payload rows count out n g cells c p a room (rw (own, at-first, same, strictly) at told′))
-
--- bytes over a part of a buffer, taken out of it
-between-own : (bs s : List ℕ) (at : ℕ) → at + length bs ≤ length s → drop at (take (at + length bs) (over bs s at)) ≡ bs
-between-own bs s at h =
-    let l : length (take at s ++ bs) ≡ at + length bs = rw (length-append, length-take-le at s (omega arith)) in
-    let front : take (at + length bs) (over bs s at) ≡ take at s ++ bs = ap (take (at + length bs)) (sym (append-assoc (take at s) bs _)) ∙ take-at (take at s ++ bs) _ _ l in
-    ap (drop at) front ∙ drop-at (take at s) bs at (length-take-le at s (omega arith))
+      rw (own, sym (ap (λ (l : ListWritten). l .running) is)) (rows-back rules running payload rows count out n g cells c p a d room (rw (own, at-first, same, strictly) at told′))
 
 -- a row's event that was written at a place: its own bytes stand there
 module _ (rules : Rules) (running : ℕ) (payload row out : List ℕ) (at n : ℕ) where
@@ -162,7 +174,7 @@ module _ (rules : Rules) (running : ℕ) (payload row out : List ℕ) (at n : �
         stands =
             ap (λ (b : List ℕ). drop at (take n b)) (a .own)
             ∙ ap (λ (m : ℕ). drop at (take m (over bs out at))) (a .size)
-            ∙ between-own bs out at (a .room)
+            ∙ over-between bs out at (a .room)
             ∙ ap (encodeEvent running) (g .0);
       }
 
@@ -179,7 +191,7 @@ never-begins rules rules′ running payload payload′ row row′ out out′ at 
 -- an event that an entry accepted is written, and what the buffer holds then
 module _ (rules : Rules) (running : ℕ) (payload row out : List ℕ) (at next : ℕ) {r next′ after′ : ℕ} {out′ : List ℕ}
     (told : EventPut rules running payload row out at next r out′ next′ after′) where
-  put-answer : r ≡ 0 → writeEvent running (rowJudged rules payload row) out at .written .answer ≡ gives next′
+  pub put-answer : r ≡ 0 → writeEvent running (rowJudged rules payload row) out at .written .answer ≡ gives next′
   put-answer z = ap (λ (w : EventWritten). w .written .answer) (event-put rules running payload row out at next told) ∙ ap (λ (x : ℕ). said x next′) z
 
 never : (rules rules′ : Rules) (running running′ : ℕ) (payload payload′ row row′ out out′ : List ℕ) (at at′ next next′ : ℕ) {r r′ n n′ after after′ : ℕ} {end end′ : List ℕ}
@@ -205,7 +217,7 @@ entry-point-3 =
           entry-bytes (fromBits (fifth a)) (fourth a) (now (third a)) (now (first a)) (second a) (now (sixth a)) (now (seventh a)) (now (ninth a)) told z;
       reads-back = λ κs a r e told z κs′ a′ r′ e′ told′.
           entry-again (fromBits (fifth a)) (fourth a) (now (third a)) (now (first a)) (second a) (now (sixth a)) (now (seventh a)) (now (ninth a)) told z
-          (now (first a′)) (second a′) (third a′) (fromBits (fourth a′)) (now (fifth a′)) (now (sixth a′)) (now (seventh a′)) (now (eighth a′)) told′;
+          (now (first a′)) (second a′) (third a′) (fromBits (fourth a′)) (now (fifth a′)) (now (sixth a′)) (now (seventh a′)) (now (eighth a′)) (now (ninth a′)) told′;
       prefix-free = λ κs a r e told z κs′ a′ r′ e′ told′.
           never (fromBits (fourth a)) (fromBits (fourth a′)) (third a) (third a′) (now (second a)) (now (second a′)) (now (first a)) (now (first a′))
           (now (fifth a)) (now (fifth a′)) (sixth a) (sixth a′) (now (seventh a)) (now (seventh a′)) told z told′;

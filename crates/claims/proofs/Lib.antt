@@ -32,4 +32,5 @@ pub mod Names
 pub mod Silences
 pub mod SoundingRows
 pub mod Sounding
+pub mod Padding
 pub mod All

@@ -200,7 +200,7 @@ lent raw at running rules r left l =
     (by (eventAt (rulesOf rules) (running .status) raw at) (event-or-left (rulesOf rules) raw (running .status) at) (l .1)) where
       by : (a : ReadAt) → EventOrLeft (rulesOf rules) raw (running .status) at a → left .status ≡ readRunning a → LeftBehind rules raw at running a (left .status)
       by (readsAt a) o e = e
-      by (refusedAt n used after) o e = e ∙ o .2
+      by (refusedAt n used after padding) o e = e ∙ o .2
 
 -- Flags and rows
 

@@ -8,14 +8,14 @@ use lib.ListN.{length, drop, getD, length-append}
 use borrow.Author.Tests.{le-leb}
 use Rattle.smf.specs.Answer.{Answer, gives, Rules}
 use Rattle.smf.specs.Running.{isRunning}
-use Rattle.smf.specs.Number.{isNumber, valueFrom, numberFrom, readNumber, numeral}
+use Rattle.smf.specs.Number.{isNumber, valueFrom, ahead, encodeNumber, beyondFewest, numberFrom, readNumber, numeral}
 use Rattle.smf.specs.Payload.{payloadAfter, readPayload}
 use Rattle.smf.specs.Place.{NumberAt, Span, numberAt}
 use Rattle.smf.specs.Write.{put}
 use Rattle.smf.specs.Wire.{dataLength, readOne, readTwo, readChannel, readMeta, readStatus, readBody, afterDelta, readRaw}
 use Rattle.smf.specs.Kind.{messageTwo, isText, calledMeta, called, noteOn, tempo, Kind, midi, meta}
 use Rattle.smf.specs.Event.{Event, event, mapMeta, mapKind, mapEvent, named, nameRaw, readEvent, legal, encodeEvent, writeJudged, writeEvent, Same}
-use Rattle.smf.specs.Lists.{goOn, readMore, readList, ListAt, listAt, filler, ended, ListHeld, holding, heldAs}
+use Rattle.smf.specs.Lists.{goOn, readMore, readList, paddings, ListAt, listAt, filler, ended, ListHeld, holding, heldAs}
 use Rattle.smf.proofs.Answer.{said-of}
 use Rattle.smf.proofs.Number.{smf-read, smf-number}
 use Rattle.smf.proofs.Place.{Reached, NumberReached, number-reached}
@@ -35,21 +35,21 @@ use Rattle.claims.specs.Calls.{EventListRead}
 use Rattle.claims.specs.Point2.{ownWritten, p1, p2, p3, nth, TwoEvents, OtherEvent, Point2}
 use Rattle.claims.proofs.Calls as calls
 
--- a list of these events, read to the end
+-- a list of these events, read to the end, with no padding
 abbrev whole : List (Event Span) → ℕ → ℕ → ListAt
-whole es place running = record { events = es; stop = ended; place = place; running = running }
+whole es place running = record { events = es; stop = ended; place = place; running = running; padding = 0 }
 
 module _ (rules : Rules) where
   two-read : listAt rules capacity 0 (p1 ++ p2) 0 ≡ whole (event 0 (midi 0 (noteOn 60 64)) ∷ event 0 (midi 0 (noteOn 60 0)) ∷ []) 7 0x90
-  unfolding isRunning numberFrom readNumber dataLength readOne readTwo readChannel readStatus readBody afterDelta readRaw messageTwo called mapKind mapEvent named nameRaw readEvent goOn readMore readList listAt
+  unfolding isRunning ahead encodeNumber numberFrom readNumber dataLength readOne readTwo readChannel readStatus readBody afterDelta readRaw messageTwo called mapKind mapEvent named nameRaw readEvent goOn readMore readList paddings listAt
   two-read = refl
 
   one-read : listAt rules capacity 0 p1 0 ≡ whole (event 0 (midi 0 (noteOn 60 64)) ∷ []) 4 0x90
-  unfolding isRunning numberFrom readNumber dataLength readOne readTwo readChannel readStatus readBody afterDelta readRaw messageTwo called mapKind mapEvent named nameRaw readEvent goOn readMore readList listAt
+  unfolding isRunning ahead encodeNumber numberFrom readNumber dataLength readOne readTwo readChannel readStatus readBody afterDelta readRaw messageTwo called mapKind mapEvent named nameRaw readEvent goOn readMore readList paddings listAt
   one-read = refl
 
   tempo-read : listAt rules capacity 0 p3 0 ≡ whole (event 0 (meta (tempo 500000)) ∷ []) 7 0
-  unfolding isRunning numberFrom readNumber payloadAfter readPayload dataLength readMeta readStatus readBody afterDelta readRaw isText calledMeta called mapMeta mapKind mapEvent named nameRaw readEvent goOn readMore readList listAt
+  unfolding isRunning ahead encodeNumber numberFrom readNumber payloadAfter readPayload dataLength readMeta readStatus readBody afterDelta readRaw isText calledMeta called mapMeta mapKind mapEvent named nameRaw readEvent goOn readMore readList paddings listAt
   tempo-read = refl
 
 -- the note with velocity 64, the one with velocity 0, and the tempo
@@ -128,11 +128,11 @@ legal-said event running rules bytes out at r end told e is h room = told ∙ le
 -- Numbers
 
 number-placed : (rules : Rules) (s : List ℕ) (at : ℕ) (n rest : List ℕ) → isNumber 4 n ≡ true → drop at s ≡ n ++ rest
-    → numberAt rules s at ≡ gives (record { value = valueFrom 0 n; next = at + length n })
+    → numberAt rules s at ≡ gives (record { value = valueFrom 0 n; next = at + length n; padding = beyondFewest (length n) (valueFrom 0 n) })
 unfolding numberAt
 number-placed rules s at n rest is e =
-    let place : at + (length (n ++ rest) - length rest) ≡ at + length n = omega (arith, length-append n rest) in
-    rw (e, smf-read rules n rest is) (ap (λ (x : ℕ). gives (record { value = valueFrom 0 n; next = x })) place)
+    let used : length (n ++ rest) - length rest ≡ length n = omega (arith, length-append n rest) in
+    rw (e, smf-read rules n rest is, used)
 
 number-only : (rules : Rules) (s : List ℕ) (at : ℕ) (m : NumberAt) → rules .strict ≡ true → numberAt rules s at ≡ gives m
     → (n : List ℕ) × (isNumber 4 n ≡ true) × (m .value ≡ valueFrom 0 n) × (drop at s ≡ n ++ drop (m .next) s)
@@ -142,7 +142,7 @@ number-only rules s at m strict e =
     (u .0, u .2, u .3, u .1)
 
 number-said : (raw : List ℕ) (at : ℕ) (rules : base.Rules) (r : ReadNumber) → numberRead r ≡ numberAt (rulesOf rules) raw at
-    → (n rest : List ℕ) → isNumber 4 n ≡ true → drop at raw ≡ n ++ rest → numberRead r ≡ gives (record { value = valueFrom 0 n; next = at + length n })
+    → (n rest : List ℕ) → isNumber 4 n ≡ true → drop at raw ≡ n ++ rest → numberRead r ≡ gives (record { value = valueFrom 0 n; next = at + length n; padding = beyondFewest (length n) (valueFrom 0 n) })
 number-said raw at rules r told n rest is e = told ∙ number-placed (rulesOf rules) raw at n rest is e
 
 only-said : (raw : List ℕ) (at : ℕ) (rules : base.Rules) (r : ReadNumber) → numberRead r ≡ numberAt (rulesOf rules) raw at

@@ -9,7 +9,7 @@ use Rattle.smf.specs.Answer.{Answer, gives, Rules, strictOf}
 use Rattle.smf.specs.Running.{isRunning}
 use Rattle.smf.specs.Write.{over}
 use Rattle.smf.specs.Event.{Event}
-use Rattle.smf.specs.Lists.{readList, encodeList, ListWritten, wrote, writeList}
+use Rattle.smf.specs.Lists.{readList, paddings, encodeList, ListWritten, wrote, writeList}
 use Rattle.smf.proofs.Write.{length-over}
 use Rattle.smf.proofs.Legal.{AllLegal, all-strictly}
 use Rattle.smf.proofs.Lists.{ReadsBack, list-reads-back, list-read, list-valid}
@@ -51,12 +51,25 @@ module _ (rules : Rules) (most running : ℕ) where
       abbrev written : ListWritten
       written = writeList most running judged count buffer
 
+      -- the own bytes stand in front
+      own-front : (n : ℕ) (e : written .answer ≡ wrote n) → take n (written .buffer) ≡ encodeList running (write-wrote most running judged count buffer n e .events)
+      own-front n e =
+          let a = write-wrote most running judged count buffer n e in
+          let own = encodeList running (a .events) in
+          ap (take n) (a .front) ∙ ap (λ (k : ℕ). take k (over own buffer 0)) (a .size) ∙ front-own own buffer
+
+      -- and have no padding
+      pub unpadded : (n : ℕ) → written .answer ≡ wrote n → paddings (readList (strictOf rules) most running (take n (written .buffer)) .events) ≡ 0
+      unpadded n e =
+          let a = write-wrote most running judged count buffer n e in
+          rw (own-front n e) (back (a .events) (a .valid) (a .few) (a .legal) .padding)
+
       accepted : (n : ℕ) → written .answer ≡ wrote n → Accepted rules most running judged count buffer written n
       accepted n e =
           let a = write-wrote most running judged count buffer n e in
           let own = encodeList running (a .events) in
           let b = back (a .events) (a .valid) (a .few) (a .legal) in
-          let front : take n (written .buffer) ≡ own = ap (take n) (a .front) ∙ ap (λ (k : ℕ). take k (over own buffer 0)) (a .size) ∙ front-own own buffer in
+          let front = own-front n e in
           record {
             events = a .events;
             legal = a .legal;

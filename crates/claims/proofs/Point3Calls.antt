@@ -31,6 +31,7 @@ use Rattle.write.specs.ListAnswers.{wroteList}
 use Rattle.write.specs.declared.answer.WroteList.{WroteList}
 use Rattle.write.specs.declared.answer.WroteEvent.{WroteEvent}
 use Rattle.write.specs.declared.answer.WroteEvent.the-variants as event
+use Rattle.write.specs.declared.answer.WroteList.the-variants as list
 use Rattle.claims.specs.Point3.{Bytes, FitsAsBytes, ListWriteSays, ReadBack, ReadAgain, NeverBegins, Point3}
 use Rattle.claims.specs.Calls.{EventListRead, WriteEvent}
 use Rattle.claims.proofs.Calls as calls
@@ -46,6 +47,10 @@ use Rattle.claims.proofs.ReadAgain.{left, own, read, Again}
 pub event-end : (r : WroteEvent) (end : List ℕ) → wroteEvent r end .written .buffer ≡ end
 event-end (event.Next p) end = refl
 event-end (event.Refused n) end = refl
+
+pub list-end : (r : WroteList) (end : List ℕ) → wroteList r end .buffer ≡ end
+list-end (list.Length s) end = refl
+list-end (list.Refused n) end = refl
 
 -- a list of records that was written, read again
 module _ (rules : Rules) (running : ℕ) (bytes : List ℕ) (records : List (Event Span)) (count : ℕ) (out : List ℕ) (n : ℕ)

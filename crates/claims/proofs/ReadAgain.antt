@@ -13,7 +13,7 @@ use Rattle.smf.proofs.Lists.{list-ended}
 use Rattle.smf.proofs.ListLegality.{Lawful}
 use Rattle.smf.proofs.ListPlaces.{list-reached}
 use Rattle.smf.proofs.ListWrites.{write-wrote}
-use Rattle.claims.proofs.Point3.{list-write-says}
+use Rattle.claims.proofs.Point3.{unpadded, list-write-says}
 
 module _ (rules : Rules) (most running : ℕ) (judged : List (Answer (Event (List ℕ)))) (count : ℕ) (out : List ℕ) (n : ℕ) where
   abbrev pub left : ListWritten
@@ -25,7 +25,7 @@ module _ (rules : Rules) (most running : ℕ) (judged : List (Answer (Event (Lis
   abbrev pub read : ListAt
   read = listAt (strictOf rules) most running own 0
 
-  -- the events that count, as they were judged and as they are read, to the end and to the same running status
+  -- the events that count, as they were judged and as they are read, to the end and to the same running status, with no padding
   pub record Again : Type 0 where
     pub events : List (Event (List ℕ))
     pub legal : take count judged ≡ map gives events
@@ -33,6 +33,7 @@ module _ (rules : Rules) (most running : ℕ) (judged : List (Answer (Event (Lis
     pub stop : read .stop ≡ ended
     pub place : read .place ≡ n
     pub status : read .running ≡ left .running
+    pub padding : read .padding ≡ 0
 
   pub again : Lawful rules judged → left .answer ≡ wrote n → Again
   unfolding listAt
@@ -47,4 +48,5 @@ module _ (rules : Rules) (most running : ℕ) (judged : List (Answer (Event (Lis
         stop = a .reads .all;
         place = omega (arith, size, ap length end);
         status = a .after;
+        padding = unpadded rules most running judged lawful count out n e;
       }

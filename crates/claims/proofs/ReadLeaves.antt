@@ -9,7 +9,7 @@ use Rattle.smf.specs.Answer.{Answer, gives, refuses, andThen, Rules}
 use Rattle.smf.specs.Running.{isRunning}
 use Rattle.smf.specs.Number.{Numeral, readNumber}
 use Rattle.smf.specs.Payload.{Payload, readPayload}
-use Rattle.smf.specs.Wire.{Raw, one, two, system, typed, RawEvent, Taken, Reading, reads, refused, dataLength, readOne, readTwo, readChannel, withPayload, readMeta, readStatus, readBody, afterDelta, readRaw, runningAfter}
+use Rattle.smf.specs.Wire.{Raw, one, two, system, typed, RawEvent, Taken, Delta, deltaRead, Reading, reads, refused, dataLength, readOne, readTwo, readChannel, withPayload, readMeta, readStatus, readBody, afterDelta, readRaw, runningAfter}
 use Rattle.smf.specs.Kind.{Meta, calledMeta, called, meta}
 use Rattle.smf.specs.Event.{Event, ReadAt, readsAt, refusedAt, named, nameRaw, readEvent, eventAt}
 use Rattle.smf.proofs.Answer.{pick-both, pick-test}
@@ -56,7 +56,7 @@ module _ (rules : Rules) (running : ℕ) where
     abbrev Left : Reading (Taken RawEvent) → Type 0
     Left = RawLeft (gives d)
 
-    channel-left : (status delta : ℕ) (s : List ℕ) → status ≡ statusOf running (d .rest) → Left (readChannel status delta s)
+    channel-left : (status : ℕ) (delta : Delta) (s : List ℕ) → status ≡ statusOf running (d .rest) → Left (readChannel status delta s)
     unfolding readChannel readOne readTwo
     channel-left status delta s e = pick-both Left (eqb (dataLength status) 1) (one-left s) (two-left s) where
       short : Leaves (gives d) 8 status
@@ -75,18 +75,18 @@ module _ (rules : Rules) (running : ℕ) where
       two-left (a ∷ b ∷ s) = pick-both Left (ltb a 0x80) (pick-both Left (ltb b 0x80) ((d, refl), refl) top) top
 
     -- 2, 3 in a length, and 11: no running status
-    payload-left : (delta : ℕ) (of : List ℕ → Raw) → ((p : List ℕ) → 0 ≡ runningAfter (of p)) → (a : Answer Payload) → By (ofPayload (rules .strict)) a → Left (withPayload delta of a)
+    payload-left : (delta : Delta) (of : List ℕ → Raw) → ((p : List ℕ) → 0 ≡ runningAfter (of p)) → (a : Answer Payload) → By (ofPayload (rules .strict)) a → Left (withPayload delta of a)
     payload-left delta of h (gives p) b = ((d, refl), h (p .bytes))
     payload-left delta of h (refuses n) b =
         let more = one-of-more (2 ∷ 3 ∷ 11 ∷ []) (ofPayload (rules .strict)) n (some-payload (rules .strict)) b in
         (one-of-more (ofEvent (rules .strict)) (ofPayload (rules .strict)) n (payload-in-event (rules .strict)) b, one-of (λ m. 0 ≡ statusLeft running (gives d) m) (2 ∷ 3 ∷ 11 ∷ []) (refl, (refl, (refl, tt))) n more)
 
-    meta-left : (delta : ℕ) (s : List ℕ) → Left (readMeta rules delta s)
+    meta-left : (delta : Delta) (s : List ℕ) → Left (readMeta rules delta s)
     unfolding readMeta
     meta-left delta [] = (always (rules .strict) 10 refl, refl)
     meta-left delta (t ∷ s) = payload-left delta (typed t) (λ p. refl) (readPayload rules s) (read-payload-by rules s)
 
-    status-left : (delta status : ℕ) (s : List ℕ) → status ≡ statusOf running (d .rest) → Left (readStatus rules running delta status s)
+    status-left : (delta : Delta) (status : ℕ) (s : List ℕ) → status ≡ statusOf running (d .rest) → Left (readStatus rules running delta status s)
     unfolding readStatus
     status-left delta status s e =
         let load = payload-left delta (system status) (λ p. refl) (readPayload rules s) (read-payload-by rules s) in
@@ -96,7 +96,7 @@ module _ (rules : Rules) (running : ℕ) where
         (pick-both Left (eqb status 0xF7) load
         (pick-both Left (ltb status 0xF7) (always (rules .strict) 6 refl, refl) (always (rules .strict) 7 refl, refl)))))
 
-    body-left : (delta : ℕ) (s : List ℕ) → d .rest ≡ s → Left (readBody rules running delta s)
+    body-left : (delta : Delta) (s : List ℕ) → d .rest ≡ s → Left (readBody rules running delta s)
     unfolding readBody
     body-left delta [] e = (always (rules .strict) 4 refl, refl)
     body-left delta (b ∷ s) e =
@@ -104,10 +104,10 @@ module _ (rules : Rules) (running : ℕ) where
         (λ t. pick-both Left (eqb running 0) (always (rules .strict) 5 refl, refl) (channel-left running delta (b ∷ s) (rw (e, t))))
         (λ t. status-left delta b s (rw (e, t)))
 
-  delta-left : (d : Answer Numeral) → By (ofNumber (rules .strict)) d → RawLeft d (afterDelta rules running d)
+  delta-left : (s : List ℕ) (d : Answer Numeral) → By (ofNumber (rules .strict)) d → RawLeft d (afterDelta rules running s d)
   unfolding afterDelta
-  delta-left (gives d) b = body-left d (d .value) (d .rest) refl
-  delta-left (refuses n) b = (one-of-more (ofEvent (rules .strict)) (ofNumber (rules .strict)) n (number-in-event (rules .strict)) b, refl)
+  delta-left s (gives d) b = body-left d (deltaRead s d) (d .rest) refl
+  delta-left s (refuses n) b = (one-of-more (ofEvent (rules .strict)) (ofNumber (rules .strict)) n (number-in-event (rules .strict)) b, refl)
 
   -- 1 leaves the running status, whatever the delta is
   one-leaves : (d : Answer Numeral) → running ≡ statusLeft running d 1
@@ -121,7 +121,7 @@ module _ (rules : Rules) (running : ℕ) where
     raw-left : RawLeft delta (readRaw rules running s)
     unfolding readRaw
     raw-left =
-        pick-test (RawLeft delta) (isRunning running) (λ _. delta-left delta (read-number-by rules s))
+        pick-test (RawLeft delta) (isRunning running) (λ _. delta-left s delta (read-number-by rules s))
         (λ _. (always (rules .strict) 1 refl, one-leaves delta))
 
     abbrev EventLeft : Reading (Taken (Event (List ℕ))) → Type 0
@@ -162,6 +162,6 @@ pub event-or-left : (rules : Rules) (bytes : List ℕ) (running at : ℕ) → Ev
 event-or-left rules bytes running at = by (eventAt rules running bytes at) (event-reached rules running bytes at) where
   by : (a : ReadAt) → EventReached rules running bytes at a → EventOrLeft rules bytes running at a
   by (readsAt a) r = (r .some, r .within)
-  by (refusedAt n used after) e =
+  by (refusedAt n used after padding) e =
       let l = subst (EventLeft rules running (drop at bytes)) (e .0) (event-left rules running (drop at bytes)) in
-      (l .0, e .1, l .1)
+      (l .0, e .1, l .1, e .2)

@@ -94,17 +94,17 @@ module _ (rules : Rules) where
   number-in-payload true = refl
   number-in-payload false = refl
 
-  payload-after-by : (n : Numeral) → By (ofPayload strict) (payloadAfter rules n)
+  payload-after-by : (s : List ℕ) (n : Numeral) → By (ofPayload strict) (payloadAfter rules s n)
   unfolding payloadAfter
-  payload-after-by n =
+  payload-after-by s n =
       pick-both (By (ofPayload strict)) (leb (n .value) (length (n .rest))) tt
       (pick-test (By (ofPayload strict)) strict (λ t. rw t) (λ t. tt))
 
   pub read-payload-by : (s : List ℕ) → By (ofPayload strict) (readPayload rules s)
   unfolding readPayload
   read-payload-by s =
-      then-by (ofPayload strict) (readNumber rules s) (payloadAfter rules)
-      (by-more (ofPayload strict) (ofNumber strict) (readNumber rules s) (number-in-payload strict) (read-number-by s)) payload-after-by
+      then-by (ofPayload strict) (readNumber rules s) (payloadAfter rules s)
+      (by-more (ofPayload strict) (ofNumber strict) (readNumber rules s) (number-in-payload strict) (read-number-by s)) (payload-after-by s)
 
   pub payload-at-by : (s : List ℕ) (at : ℕ) → By (ofPayload strict) (payloadAt rules s at)
   unfolding payloadAt

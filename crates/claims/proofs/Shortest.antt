@@ -44,7 +44,7 @@ used : (rules : Rules) (running : ℕ) (raw : List ℕ) (at : ℕ) (a : EventAt)
     → length (encodeEvent running (mapEvent (bytesOf raw) (a .event))) ≤ a .used
 used rules running raw at a strict e =
     let r : Reached rules running raw at a = subst (EventReached rules running raw at) e (event-reached rules running raw at) in
-    let few = event-read rules running (drop at raw) (taken (mapEvent (bytesOf raw) (a .event)) (drop (at + a .used) raw) (a .running)) (r .read) .shortest strict in
+    let few = event-read rules running (drop at raw) (taken (mapEvent (bytesOf raw) (a .event)) (drop (at + a .used) raw) (a .running) (a .padding)) (r .read) .shortest strict in
     omega (arith, few, r .within, length-drop at raw, length-drop (at + a .used) raw)
 
 pub shortest : Shortest
@@ -61,10 +61,10 @@ abbrev p7 : List ℕ
 p7 = 0x00 ∷ 0xF0 ∷ []
 
 abbrev empty : EventAt
-empty = record { event = event 0 (sysEx (record { start = 2; length = 0 })); used = 2; running = 0 }
+empty = record { event = event 0 (sysEx (record { start = 2; length = 0 })); used = 2; running = 0; padding = 0 }
 
 p7-read : eventAt (record { strict = false }) 0 p7 0 ≡ readsAt empty
-unfolding isRunning numberFrom readNumber payloadAfter readPayload readStatus readBody afterDelta readRaw called mapKind mapEvent named nameRaw readEvent placed eventAt
+unfolding isRunning ahead encodeNumber numberFrom readNumber payloadAfter readPayload readStatus readBody afterDelta readRaw called mapKind mapEvent named nameRaw readEvent placed eventAt
 p7-read = refl
 
 p7-length : length (encodeEvent 0 (mapEvent (bytesOf p7) (empty .event))) ≡ 3

@@ -12,7 +12,6 @@ use lib.Seq.{take-at, drop-at, length-take-le}
 use borrow.Author.Tests.{lt-ltb, le-ltb, ltb-true, le-leb, eqb-true, leb-true, leb-false}
 use Rattle.smf.specs.Answer.{pick, Answer, gives, refuses, Rules}
 use Rattle.smf.specs.Running.{isRunning}
-use Rattle.smf.specs.Width.{tryWidth}
 use Rattle.smf.specs.Number.{numeral, encodeNumber}
 use Rattle.smf.specs.Payload.{encodePayload}
 use Rattle.smf.specs.Write.{Written, over, put, write, numberBytes, payloadBytes}
@@ -52,7 +51,7 @@ use Rattle.event.specs.declared.TrackEvent.{TrackEvent}
 use Rattle.write.specs.Wrote.{wroteEvent}
 use Rattle.write.specs.declared.answer.WroteEvent.{WroteEvent}
 use Rattle.claims.specs.SmfForms as form
-use Rattle.claims.specs.SmfForms.{NumberForm, PayloadForm, ChannelForm, between, RateCode, KeyByte, ModeByte, Unnamed, MetaForm, BodyForm, EventForm, FormatForm, TimingForm, Fewest, SmfForms}
+use Rattle.claims.specs.SmfForms.{NumberForm, PayloadForm, ChannelForm, between, RateCode, KeyByte, ModeByte, Unnamed, MetaForm, BodyForm, EventForm, payloadPadding, eventPadding, FormatForm, TimingForm, Fewest, SmfForms}
 use Rattle.claims.proofs.Calls as calls
 use Rattle.claims.proofs.Point3Calls.{event-end}
 use Rattle.claims.proofs.SmfReads as reads
@@ -210,12 +209,12 @@ payload-fewest p others f =
 event-fewest : (running : ℕ) (e : Event (List ℕ)) (after : ℕ) (others : List ℕ) → isRunning running ≡ true → EventForm running e after others
     → length (encodeEvent running e) ≤ length others
 event-fewest running e after others is f =
-    let few = event-read strictest running (others ++ []) (taken e [] after) (reads.event-read strictest running e after others [] is f) .shortest refl in
+    let few = event-read strictest running (others ++ []) (taken e [] after (eventPadding f)) (reads.event-read strictest running e after others [] is f) .shortest refl in
     omega (arith, few, length-append others [])
 
 -- What stands in the buffer behind an accepted write
 
-over-between : (bs s : List ℕ) (at : ℕ) → at + length bs ≤ length s → between at (at + length bs) (over bs s at) ≡ bs
+pub over-between : (bs s : List ℕ) (at : ℕ) → at + length bs ≤ length s → between at (at + length bs) (over bs s at) ≡ bs
 over-between bs s at room =
     let l = length-take-le at s (omega arith) in
     let w : length (take at s ++ bs) ≡ at + length bs = rw (length-append, l) in
@@ -225,10 +224,10 @@ over-between bs s at room =
     ap (drop at) front ∙ drop-at (take at s) bs at l
 
 -- a write that was accepted: the bytes that the thing has stand at the place
-record Put (a : Answer (List ℕ)) (at n : ℕ) (end : List ℕ) : Type 0 where
-  bytes : List ℕ
-  has : a ≡ gives bytes
-  there : between at n end ≡ bytes
+pub record Put (a : Answer (List ℕ)) (at n : ℕ) (end : List ℕ) : Type 0 where
+  pub bytes : List ℕ
+  pub has : a ≡ gives bytes
+  pub there : between at n end ≡ bytes
 
 abbrev Puts : Answer (List ℕ) → ℕ → Written → Answer ℕ → Type 0
 Puts a at w (gives n) = Put a at n (w .buffer)
@@ -241,16 +240,18 @@ puts (gives bs) s at =
     pick-test (λ (w : Written). Puts (gives bs) at w (w .answer)) (leb (at + length bs) (length s))
     (λ t. record { bytes = bs; has = refl; there = over-between bs s at (leb-true _ _ t) }) (λ _. tt)
 
-put-is : (a : Answer (List ℕ)) (s : List ℕ) (at n : ℕ) (w : Written) → w ≡ write a s at → w .answer ≡ gives n → Put a at n (w .buffer)
+pub put-is : (a : Answer (List ℕ)) (s : List ℕ) (at n : ℕ) (w : Written) → w ≡ write a s at → w .answer ≡ gives n → Put a at n (w .buffer)
 put-is a s at n w told e = subst (Puts a at w) e (subst (λ (x : Written). Puts a at x (x .answer)) (sym told) (puts a s at))
 
 -- a number and a payload that have bytes have their shortest
+pub number-shortest : (v : ℕ) (bs : List ℕ) → numberBytes v ≡ gives bs → (v < 2 ^ 28) × (bs ≡ encodeNumber v)
+number-shortest v bs e =
+    by-lt v (2 ^ 28) (λ h. (h, same-answer (sym e ∙ number-bytes v h))) (λ h. absurd (no-answer (sym (number-bytes-wide v h) ∙ e)))
+
 number-own : (v : ℕ) (bs : List ℕ) → numberBytes v ≡ gives bs → Fewest (NumberForm v) bs
-unfolding numberBytes tryWidth
 number-own v bs e =
-    by-lt v (2 ^ 28)
-    (λ h. subst (Fewest (NumberForm v)) (same-answer (sym (number-bytes v h) ∙ e)) (record { form = number-form v h; fewest = number-fewest v }))
-    (λ h. absurd (no-answer (sym (number-bytes-wide v h) ∙ e)))
+    let s = number-shortest v bs e in
+    rw (s .1) (record { form = number-form v (s .0); fewest = number-fewest v })
 
 payload-own : (bytes : List ℕ) (start n : ℕ) (bs : List ℕ) → payloadBytes bytes start n ≡ gives bs → Fewest (PayloadForm (take n (drop start bytes))) bs
 payload-own bytes start n bs e =
@@ -262,8 +263,8 @@ payload-own bytes start n bs e =
     (record { form = payload-form p (omega (arith, length-take-le n (drop start bytes) (omega (arith, length-drop start bytes)))); fewest = payload-fewest p }))
     (λ h. absurd (no-answer (sym (part-long bytes start n inside h) ∙ e))))
 
-payload-at : (rules : Rules) (raw : List ℕ) (at : ℕ) (p s rest : List ℕ) → PayloadForm p s → drop at raw ≡ s ++ rest
-    → payloadAt rules raw at ≡ gives (record { start = at + length s - length p; length = length p })
+payload-at : (rules : Rules) (raw : List ℕ) (at : ℕ) (p s rest : List ℕ) (f : PayloadForm p s) → drop at raw ≡ s ++ rest
+    → payloadAt rules raw at ≡ gives (record { span = record { start = at + length s - length p; length = length p }; padding = payloadPadding f })
 unfolding payloadAt
 payload-at rules raw at p s rest f q =
     let n : length (s ++ rest) - length rest ≡ length s = omega (arith, length-append s rest) in
@@ -372,12 +373,13 @@ event-said event running rules bytes out at r end told n e =
     (a .0, a .1, subst (λ (s : List ℕ). Fewest (EventForm (running .status) (a .0) (w .running)) (between at n s)) (event-end r end) (a .2))
 
 payload-read-said : (raw : List ℕ) (at : ℕ) (rules : base.Rules) (r : ReadSlice) → sliceRead r ≡ payloadAt (rulesOf rules) raw at
-    → (p s rest : List ℕ) → PayloadForm p s → drop at raw ≡ s ++ rest → sliceRead r ≡ gives (record { start = at + length s - length p; length = length p })
+    → (p s rest : List ℕ) (f : PayloadForm p s) → drop at raw ≡ s ++ rest
+    → sliceRead r ≡ gives (record { span = record { start = at + length s - length p; length = length p }; padding = payloadPadding f })
 payload-read-said raw at rules r told p s rest f q = told ∙ payload-at (rulesOf rules) raw at p s rest f q
 
 event-read-said : (raw : List ℕ) (at : ℕ) (running : Running) (rules : base.Rules) (r : ReadEvent) → eventRead r ≡ eventAt (rulesOf rules) (running .status) raw at
-    → (e : Event (List ℕ)) (after : ℕ) (s rest : List ℕ) → isRunning (running .status) ≡ true → EventForm (running .status) e after s → drop at raw ≡ s ++ rest
-    → eventRead r ≡ readsAt (record { event = event (e .delta) (mapKind (spanBefore (at + length s)) (e .kind)); used = length s; running = after })
+    → (e : Event (List ℕ)) (after : ℕ) (s rest : List ℕ) → isRunning (running .status) ≡ true → (f : EventForm (running .status) e after s) → drop at raw ≡ s ++ rest
+    → eventRead r ≡ readsAt (record { event = event (e .delta) (mapKind (spanBefore (at + length s)) (e .kind)); used = length s; running = after; padding = eventPadding f })
 event-read-said raw at running rules r told e after s rest is f q = told ∙ reads.event-at (rulesOf rules) (running .status) e after raw at s rest is f q
 
 pub smf-forms : SmfForms

@@ -3,7 +3,7 @@ use mathlib.Core.Path.{_≡_, refl, ap, _∙_, subst}
 use mathlib.Core.Bool.{Bool, true, false, true≢false, not, _||_}
 use mathlib.Core.List.{List, [], _∷_, _++_, append-assoc}
 use Prim.Native.Nat.{ℕ, zero, suc, _+_, _-_, _*_, _/_, _%_, _≤_, _<_}
-use native.Mathlib.Nat.{mod-eq-of-lt}
+use native.Mathlib.Nat.{add-zero, mod-eq-of-lt}
 use native.Mathlib.Omega.{arith}
 use lib.Dec.{leb, eqb}
 use lib.IntN.{ℤ, pos, negℤ}
@@ -12,11 +12,11 @@ use lib.Seq.{take-append-seam, drop-append-seam}
 use borrow.Author.Tests.{lt-ltb, le-ltb, le-leb, lt-leb, ne-eqb}
 use Rattle.smf.specs.Answer.{pick, gives, Rules}
 use Rattle.smf.specs.Running.{isRunning}
-use Rattle.smf.specs.Number.{numeral, readNumber}
+use Rattle.smf.specs.Number.{numeral, readNumber, beyondFewest, paddingOf}
 use Rattle.smf.specs.Payload.{payload, payloadAfter, readPayload}
 use Rattle.smf.specs.Signed.{signedByte}
 use Rattle.smf.specs.Smpte.{time, isRate, rateOfCode, isTime, toTime, timeOf}
-use Rattle.smf.specs.Wire.{taken, reads, dataLength, readOne, readTwo, readChannel, readMeta, readStatus, readBody, afterDelta, readRaw}
+use Rattle.smf.specs.Wire.{taken, Delta, reads, dataLength, readOne, readTwo, readChannel, readMeta, readStatus, readBody, afterDelta, readRaw}
 use Rattle.smf.specs.Kind as kind
 use Rattle.smf.specs.Kind.{Message, Meta, Kind, midi, messageOne, messageTwo, isText, trackNumberOf, narrow, timeIn, calledMeta, called}
 use Rattle.smf.specs.Event.{Event, event, named, nameRaw, readEvent, mapKind, mapEvent, spanBefore, placed, eventAt, readsAt}
@@ -25,7 +25,7 @@ use Rattle.smf.proofs.Signed.{signed-low, signed-high}
 use Rattle.smf.proofs.Smpte.{rate-small, is-time}
 use Rattle.smf.proofs.Running.{Channel}
 use Rattle.claims.specs.SmfForms as form
-use Rattle.claims.specs.SmfForms.{NumberForm, PayloadForm, ChannelForm, RateCode, KeyByte, ModeByte, Unnamed, MetaForm, BodyForm, EventForm}
+use Rattle.claims.specs.SmfForms.{NumberForm, PayloadForm, ChannelForm, RateCode, KeyByte, ModeByte, Unnamed, MetaForm, BodyForm, EventForm, payloadPadding, bodyPadding, eventPadding}
 
 pub neither : (a b : Bool) → (a || b) ≡ false → (a ≡ false) × (b ≡ false)
 neither true b h = absurd (true≢false h)
@@ -42,19 +42,23 @@ module _ (rules : Rules) where
   pub number-read : (v : ℕ) (n rest : List ℕ) → NumberForm v n → readNumber rules (n ++ rest) ≡ gives (numeral v rest)
   number-read v n rest f = smf-read rules n rest (f .is) ∙ ap (λ (k : ℕ). gives (numeral k rest)) (f .stands)
 
-  pub payload-read : (p s rest : List ℕ) → PayloadForm p s → readPayload rules (s ++ rest) ≡ gives (payload p rest)
+  -- the bytes beyond the fewest are the form's own
+  number-padded : (v : ℕ) (n rest : List ℕ) → paddingOf (n ++ rest) (numeral v rest) ≡ beyondFewest (length n) v
+  number-padded v n rest = omega (arith, length-append n rest)
+
+  pub payload-read : (p s rest : List ℕ) (f : PayloadForm p s) → readPayload rules (s ++ rest) ≡ gives (payload p rest (payloadPadding f))
   unfolding readPayload payloadAfter
   payload-read p s rest f =
       let fits : leb (length p) (length (p ++ rest)) ≡ true = le-leb (length p) (length (p ++ rest)) (omega (arith, length-append p rest)) in
-      rw (f .whole, append-assoc, number-read (length p) (f .number) (p ++ rest) (f .counts), fits, take-append-seam p rest, drop-append-seam p rest)
+      rw (f .whole, append-assoc, number-read (length p) (f .number) (p ++ rest) (f .counts), number-padded (length p) (f .number) (p ++ rest), fits, take-append-seam p rest, drop-append-seam p rest)
 
   -- Channel messages
 
-  module _ (c delta : ℕ) (low : c < 16) where
+  module _ (c : ℕ) (delta : Delta) (low : c < 16) where
     -- a status with its data behind it, and the data alone where the status runs
     record Reads (m : Message) (status : ℕ) (s : List ℕ) : Type 0 where
       is : Channel status
-      reads-as : (rest : List ℕ) → nameRaw rules (readChannel status delta (s ++ rest)) ≡ reads (taken (event delta (midi c m)) rest status)
+      reads-as : (rest : List ℕ) → nameRaw rules (readChannel status delta (s ++ rest)) ≡ reads (taken (event (delta .value) (midi c m)) rest status (delta .padding))
       runs : (rest : List ℕ) → readBody rules status delta (s ++ rest) ≡ readChannel status delta (s ++ rest)
 
     at-data : (status a : ℕ) (s : List ℕ) → Channel status → a < 0x80 → readBody rules status delta (a ∷ s) ≡ readChannel status delta (a ∷ s)
@@ -170,28 +174,30 @@ module _ (rules : Rules) where
 
   -- Events
 
-  body-read : (running delta : ℕ) (k : Kind (List ℕ)) (s : List ℕ) (after : ℕ) (rest : List ℕ) → BodyForm running k s after
-      → nameRaw rules (readBody rules running delta (s ++ rest)) ≡ reads (taken (event delta k) rest after)
+  body-read : (running : ℕ) (delta : Delta) (k : Kind (List ℕ)) (s : List ℕ) (after : ℕ) (rest : List ℕ) (f : BodyForm running k s after)
+      → nameRaw rules (readBody rules running delta (s ++ rest)) ≡ reads (taken (event (delta .value) k) rest after (delta .padding + bodyPadding f))
   unfolding readBody readStatus readMeta nameRaw named called
   body-read running delta _ _ _ rest (form.channel {c} {status} {m} {s} low f) =
       let r = channel-read c delta low m status s f in
-      rw (le-ltb status 0x80 (r .is .low), lt-ltb status 0xF0 (r .is .high)) (r .reads-as rest)
+      rw (le-ltb status 0x80 (r .is .low), lt-ltb status 0xF0 (r .is .high), add-zero) (r .reads-as rest)
   body-read running delta _ _ _ rest (form.under {c} {m} {s} low f) =
       let r = channel-read c delta low m running s f in
-      rw (r .runs rest) (r .reads-as rest)
+      rw (r .runs rest, add-zero) (r .reads-as rest)
   body-read running delta _ _ _ rest (form.sysEx {p} {s} f) = rw (payload-read p s rest f)
   body-read running delta _ _ _ rest (form.escape {p} {s} f) = rw (payload-read p s rest f)
   body-read running delta _ _ _ rest (form.meta {m} {t} {p} {s} n f) = rw (payload-read p s rest f, meta-read m t p n)
 
-  pub event-read : (running : ℕ) (e : Event (List ℕ)) (after : ℕ) (s rest : List ℕ) → isRunning running ≡ true → EventForm running e after s
-      → readEvent rules running (s ++ rest) ≡ reads (taken e rest after)
+  pub event-read : (running : ℕ) (e : Event (List ℕ)) (after : ℕ) (s rest : List ℕ) → isRunning running ≡ true → (f : EventForm running e after s)
+      → readEvent rules running (s ++ rest) ≡ reads (taken e rest after (eventPadding f))
   unfolding readEvent readRaw afterDelta
   event-read running e after s rest is f =
-      rw (f .whole, is, append-assoc, number-read (e .delta) (f .delta) (f .body ++ rest) (f .ticks), body-read running (e .delta) (e .kind) (f .body) after rest (f .stands))
+      let behind = f .body ++ rest in
+      let delta : Delta = record { value = e .delta; padding = beyondFewest (length (f .delta)) (e .delta) } in
+      rw (f .whole, is, append-assoc, number-read (e .delta) (f .delta) behind (f .ticks), number-padded (e .delta) (f .delta) behind, body-read running delta (e .kind) (f .body) after rest (f .stands))
 
-  pub event-at : (running : ℕ) (e : Event (List ℕ)) (after : ℕ) (raw : List ℕ) (at : ℕ) (s rest : List ℕ) → isRunning running ≡ true → EventForm running e after s
+  pub event-at : (running : ℕ) (e : Event (List ℕ)) (after : ℕ) (raw : List ℕ) (at : ℕ) (s rest : List ℕ) → isRunning running ≡ true → (f : EventForm running e after s)
       → drop at raw ≡ s ++ rest
-      → eventAt rules running raw at ≡ readsAt (record { event = event (e .delta) (mapKind (spanBefore (at + length s)) (e .kind)); used = length s; running = after })
+      → eventAt rules running raw at ≡ readsAt (record { event = event (e .delta) (mapKind (spanBefore (at + length s)) (e .kind)); used = length s; running = after; padding = eventPadding f })
   unfolding eventAt placed mapEvent
   event-at running e after raw at s rest is f q =
       let n : length (drop at raw) - length rest ≡ length s = omega (arith, ap length q, length-append s rest) in

@@ -20,7 +20,7 @@ use Rattle.claims.proofs.ReadLeaves.{event-or-left}
 module _ (rules : Rules) (bytes : List ℕ) (at : ℕ) where
   -- so many more, from a place that was reached
   record More (most running place : ℕ) (l : ListAt) : Type 0 where
-    pub stand : Stand rules bytes running place (l .events) (l .running) (l .place)
+    pub stand : Stand rules bytes running place (l .events) (l .running) (l .place) (l .padding)
     pub few : length (l .events) ≤ most
     pub why : Why rules bytes most l (l .stop)
     pub before : (n : ℕ) → l .stop ≡ stopped n → l .place < length bytes
@@ -28,7 +28,7 @@ module _ (rules : Rules) (bytes : List ℕ) (at : ℕ) where
   abbrev more : ℕ → ℕ → ℕ → ListAt
   more most running place = listPlaced bytes at (readMore rules most running (drop place bytes))
 
-  why-behind : (most : ℕ) (a : EventAt) (l : ListAt) (stop : Stop) → Why rules bytes most l stop → Why rules bytes (suc most) (inFront (a .event) l) stop
+  why-behind : (most : ℕ) (a : EventAt) (l : ListAt) (stop : Stop) → Why rules bytes most l stop → Why rules bytes (suc most) (inFront (a .event) (a .padding) l) stop
   why-behind most a l ended w = w
   why-behind most a l full w = (ap suc (w .0), w .1)
   why-behind most a l (stopped n) w = w
@@ -46,9 +46,9 @@ module _ (rules : Rules) (bytes : List ℕ) (at : ℕ) where
       → ((r p : ℕ) → Sited bytes at p → More most r p (more most r p))
       → (a : ReadAt) → eventAt rules running bytes place ≡ a → EventOrLeft rules bytes running place a
       → More (suc most) running place (more (suc most) running place)
-  one most running place site h others (refusedAt n used after) e l =
+  one most running place site h others (refusedAt n used after padding) e l =
       rw (more-refused rules running bytes at place site most h e)
-      (record { stand = none; few = omega arith; why = (l .0, (after, e ∙ ap (λ (k : ℕ). refusedAt n k after) (l .1))); before = λ m q. h })
+      (record { stand = none; few = omega arith; why = (l .0, (after, e ∙ rw (l .1, l .3))); before = λ m q. h })
   one most running place site h others (readsAt a) e l =
       let m = others (a .running) (place + a .used) (more-next rules running bytes at place site h e .0) in
       rw (more-step rules running bytes at place site most h e)
@@ -79,8 +79,8 @@ module _ (rules : Rules) (bytes : List ℕ) (at : ℕ) where
 
     not-valid : isRunning running ≡ false → ListStands rules bytes most running at list
     not-valid not =
-        let e : eventAt rules running bytes at ≡ refusedAt 1 0 running = sym (event-invalid rules running bytes at not) in
-        let l : EventOrLeft rules bytes running at (refusedAt 1 0 running) = subst (EventOrLeft rules bytes running at) e (event-or-left rules bytes running at) in
+        let e : eventAt rules running bytes at ≡ refusedAt 1 0 running 0 = sym (event-invalid rules running bytes at not) in
+        let l : EventOrLeft rules bytes running at (refusedAt 1 0 running 0) = subst (EventOrLeft rules bytes running at) e (event-or-left rules bytes running at) in
         rw (list-invalid rules most running bytes at not)
         (record {
           stand = none;

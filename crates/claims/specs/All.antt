@@ -11,6 +11,7 @@ use Rattle.claims.specs.Point1.{Point1}
 use Rattle.claims.specs.Point2.{Point2}
 use Rattle.claims.specs.Point3.{Writes, Point3}
 use Rattle.claims.specs.Sounding.{Sounding}
+use Rattle.claims.specs.Padding.{Padding, EntryPadding}
 use Rattle.claims.specs.SmfForms.{SmfForms}
 use Rattle.claims.specs.Literals.{Literals}
 
@@ -40,3 +41,6 @@ pub record All : Type 2 where
   pub literals : Literals
   -- document 02, Q-1: notes still sounding
   pub sounding : Sounding
+  -- document 02, Q-2: padding
+  pub padding : Padding
+  pub entry-padding : EntryPadding

@@ -12,12 +12,12 @@ use Rattle.claims.specs.EntryCalls.{numberReadEntry, numberWriteEntry, p
 pub record NumberEntries : Type 0 where
   pub rules : OneAnswer loader.rules.Reads.Learnt
   pub number-read : OneOutcome loader.numbers.«apk_number_read».Reads.Learnt
-      (numberReadEntry (λ bytes at bits value next r. r & value .after & next .after))
+      (numberReadEntry (λ bytes at bits value next padding r. r & value .after & next .after & padding .after))
   pub number-length : OneAnswer loader.numbers.«apk_number_length».Reads.Learnt
   pub number-write : OneOutcome loader.numbers.«apk_number_write».Reads.Learnt
       (numberWriteEntry (λ value out at next r. r & out .after & next .after))
   pub payload-read : OneOutcome loader.numbers.«apk_payload_read».Reads.Learnt
-      (payloadReadEntry (λ bytes at bits start length r. r & start .after & length .after))
+      (payloadReadEntry (λ bytes at bits start length padding r. r & start .after & length .after & padding .after))
   pub payload-write : OneOutcome loader.numbers.«apk_payload_write».Reads.Learnt
       (payloadWriteEntry (λ payload start length out at next r. r & out .after & next .after))
 
@@ -69,7 +69,7 @@ pub record BendEntries : Type 0 where
 -- `loader_track`: one event
 pub record EventEntries : Type 0 where
   pub event-read : OneOutcome loader_track.events.«apk_event_read».Reads.Learnt
-      (eventReadEntry (λ bytes at running bits row used after r. r & row .after & used .after & after .after))
+      (eventReadEntry (λ bytes at running bits row used after padding r. r & row .after & used .after & after .after & padding .after))
   pub event-length : OneOutcome loader_track.events.«apk_event_length».Reads.Learnt
       (eventLengthEntry (λ row payload running bits length after r. r & length .after & after .after))
   pub event-write : OneOutcome loader_track.events.«apk_event_write».Reads.Learnt
@@ -78,7 +78,8 @@ pub record EventEntries : Type 0 where
 -- `loader_track`: lists
 pub record ListEntries : Type 0 where
   pub list-read : OneOutcome loader_track.«list_read».«apk_list_read».Reads.Learnt
-      (listReadEntry (λ bytes at running bits rows count place after r. r & rows .after & count .after & place .after & after .after))
+      (listReadEntry (λ bytes at running bits rows count place after padding r.
+      r & rows .after & count .after & place .after & after .after & padding .after))
   pub list-length : OneOutcome loader_track.«list_write».«apk_list_length».Reads.Learnt
       (listLengthEntry (λ rows count payload running bits length after index r. r & length .after & after .after & index .after))
   pub list-write : OneOutcome loader_track.«list_write».«apk_list_write».Reads.Learnt

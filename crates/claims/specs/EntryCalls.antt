@@ -13,17 +13,17 @@ use Rattle.claims.specs.Calls.{Shows, Lent, whileLent, first, second, th
 module _ {ℓ} {X : Type ℓ} where
   -- Numbers and payloads
 
-  -- `apk_number_read(bytes, at, bits, value, next)`
-  abbrev pub numberReadEntry : (List ℕ → ℕ → ℕ → Lent ℕ → Lent ℕ → ℕ → X) → Shows loader.numbers.«apk_number_read».Reads.Learnt X
-  numberReadEntry show κs a r e = show (now (first a)) (second a) (third a) (whileLent (fourth a) (fourth e)) (whileLent (fifth a) (fifth e)) r
+  -- `apk_number_read(bytes, at, bits, value, next, padding)`
+  abbrev pub numberReadEntry : (List ℕ → ℕ → ℕ → Lent ℕ → Lent ℕ → Lent ℕ → ℕ → X) → Shows loader.numbers.«apk_number_read».Reads.Learnt X
+  numberReadEntry show κs a r e = show (now (first a)) (second a) (third a) (whileLent (fourth a) (fourth e)) (whileLent (fifth a) (fifth e)) (whileLent (sixth a) (sixth e)) r
 
   -- `apk_number_write(value, out, at, next)`
   abbrev pub numberWriteEntry : (ℕ → Lent (List ℕ) → ℕ → Lent ℕ → ℕ → X) → Shows loader.numbers.«apk_number_write».Reads.Learnt X
   numberWriteEntry show κs a r e = show (first a) (whileLent (second a) (second e)) (third a) (whileLent (fourth a) (fourth e)) r
 
-  -- `apk_payload_read(bytes, at, bits, start, length)`
-  abbrev pub payloadReadEntry : (List ℕ → ℕ → ℕ → Lent ℕ → Lent ℕ → ℕ → X) → Shows loader.numbers.«apk_payload_read».Reads.Learnt X
-  payloadReadEntry show κs a r e = show (now (first a)) (second a) (third a) (whileLent (fourth a) (fourth e)) (whileLent (fifth a) (fifth e)) r
+  -- `apk_payload_read(bytes, at, bits, start, length, padding)`
+  abbrev pub payloadReadEntry : (List ℕ → ℕ → ℕ → Lent ℕ → Lent ℕ → Lent ℕ → ℕ → X) → Shows loader.numbers.«apk_payload_read».Reads.Learnt X
+  payloadReadEntry show κs a r e = show (now (first a)) (second a) (third a) (whileLent (fourth a) (fourth e)) (whileLent (fifth a) (fifth e)) (whileLent (sixth a) (sixth e)) r
 
   -- `apk_payload_write(payload, start, length, out, at, next)`
   abbrev pub payloadWriteEntry : (List ℕ → ℕ → ℕ → Lent (List ℕ) → ℕ → Lent ℕ → ℕ → X) → Shows loader.numbers.«apk_payload_write».Reads.Learnt X
@@ -97,9 +97,9 @@ module _ {ℓ} {X : Type ℓ} where
 
   -- One event, as a row of cells
 
-  -- `apk_event_read(bytes, at, running, bits, row, used, after)`
-  abbrev pub eventReadEntry : (List ℕ → ℕ → ℕ → ℕ → Lent (List ℕ) → Lent ℕ → Lent ℕ → ℕ → X) → Shows loader_track.events.«apk_event_read».Reads.Learnt X
-  eventReadEntry show κs a r e = show (now (first a)) (second a) (third a) (fourth a) (whileLent (fifth a) (fifth e)) (whileLent (sixth a) (sixth e)) (whileLent (seventh a) (seventh e)) r
+  -- `apk_event_read(bytes, at, running, bits, row, used, after, padding)`
+  abbrev pub eventReadEntry : (List ℕ → ℕ → ℕ → ℕ → Lent (List ℕ) → Lent ℕ → Lent ℕ → Lent ℕ → ℕ → X) → Shows loader_track.events.«apk_event_read».Reads.Learnt X
+  eventReadEntry show κs a r e = show (now (first a)) (second a) (third a) (fourth a) (whileLent (fifth a) (fifth e)) (whileLent (sixth a) (sixth e)) (whileLent (seventh a) (seventh e)) (whileLent (eighth a) (eighth e)) r
 
   -- `apk_event_length(row, payload, running, bits, length, after)`
   abbrev pub eventLengthEntry : (List ℕ → List ℕ → ℕ → ℕ → Lent ℕ → Lent ℕ → ℕ → X) → Shows loader_track.events.«apk_event_length».Reads.Learnt X
@@ -111,9 +111,9 @@ module _ {ℓ} {X : Type ℓ} where
 
   -- A list, read into rows
 
-  -- `apk_list_read(bytes, at, running, bits, rows, count, place, after)`
-  abbrev pub listReadEntry : (List ℕ → ℕ → ℕ → ℕ → Lent (List ℕ) → Lent ℕ → Lent ℕ → Lent ℕ → ℕ → X) → Shows loader_track.«list_read».«apk_list_read».Reads.Learnt X
-  listReadEntry show κs a r e = show (now (first a)) (second a) (third a) (fourth a) (whileLent (fifth a) (fifth e)) (whileLent (sixth a) (sixth e)) (whileLent (seventh a) (seventh e)) (whileLent (eighth a) (eighth e)) r
+  -- `apk_list_read(bytes, at, running, bits, rows, count, place, after, padding)`
+  abbrev pub listReadEntry : (List ℕ → ℕ → ℕ → ℕ → Lent (List ℕ) → Lent ℕ → Lent ℕ → Lent ℕ → Lent ℕ → ℕ → X) → Shows loader_track.«list_read».«apk_list_read».Reads.Learnt X
+  listReadEntry show κs a r e = show (now (first a)) (second a) (third a) (fourth a) (whileLent (fifth a) (fifth e)) (whileLent (sixth a) (sixth e)) (whileLent (seventh a) (seventh e)) (whileLent (eighth a) (eighth e)) (whileLent (ninth a) (ninth e)) r
 
   -- A list of rows, measured and written
 

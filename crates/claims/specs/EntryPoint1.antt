@@ -26,12 +26,12 @@ use Rattle.claims.specs.Leaves.{EventLeaves, SizeLeaves, ListLeaves}
 
 -- numbers and payloads: 2, 3 and 11 only where reading is strict
 pub record NumberRefusals : Type 0 where
-  pub number-read : Always loader.numbers.«apk_number_read».Reads.Learnt (numberReadEntry (λ bytes at bits value next r.
-      AnswersBy (ofNumber (fromBits bits .strict)) r (Unchanged value × Unchanged next)))
+  pub number-read : Always loader.numbers.«apk_number_read».Reads.Learnt (numberReadEntry (λ bytes at bits value next padding r.
+      AnswersBy (ofNumber (fromBits bits .strict)) r (Unchanged value × Unchanged next × Unchanged padding)))
   pub number-write : Always loader.numbers.«apk_number_write».Reads.Learnt (numberWriteEntry (λ value out at next r.
       AnswersBy (18 ∷ 20 ∷ []) r (Unchanged out × Unchanged next)))
-  pub payload-read : Always loader.numbers.«apk_payload_read».Reads.Learnt (payloadReadEntry (λ bytes at bits start long r.
-      AnswersBy (ofPayload (fromBits bits .strict)) r (Unchanged start × Unchanged long)))
+  pub payload-read : Always loader.numbers.«apk_payload_read».Reads.Learnt (payloadReadEntry (λ bytes at bits start long padding r.
+      AnswersBy (ofPayload (fromBits bits .strict)) r (Unchanged start × Unchanged long × Unchanged padding)))
   pub payload-write : Always loader.numbers.«apk_payload_write».Reads.Learnt (payloadWriteEntry (λ payload start long out at next r.
       AnswersBy (19 ∷ 20 ∷ 22 ∷ []) r (Unchanged out × Unchanged next)))
 
@@ -66,31 +66,33 @@ pub record BendRefusals : Type 0 where
   pub bend-as-f32 : Always loader.bends.«apk_bend_as_f32».Reads.Learnt (bendAsF32Entry (λ raw float r. AnswersBy (18 ∷ []) r (Unchanged float)))
   pub bend-as-f64 : Always loader.bends.«apk_bend_as_f64».Reads.Learnt (bendAsF64Entry (λ raw float r. AnswersBy (18 ∷ []) r (Unchanged float)))
 
--- a list that was handed out: its rows in the cells from the first on and no other cell changed, how many they are, where reading stopped and why
-pub record HandedOut (l : ListAt) (rows : Lent (List ℕ)) (count place after : Lent ℕ) (r : ℕ) : Type 0 where
+-- a list that was handed out: its rows in the cells from the first on and no other cell changed, how many they are, where reading stopped and why,
+-- and their padding
+pub record HandedOut (l : ListAt) (rows : Lent (List ℕ)) (count place after padding : Lent ℕ) (r : ℕ) : Type 0 where
   pub answer : r ≡ stopNumber (l .stop)
   pub cells : rows .after ≡ over (sheetOf (l .events)) (rows .before) 0
   pub many : count .after ≡ length (l .events)
   pub reached : place .after ≡ l .place
   pub status : after .after ≡ l .running
+  pub padded : padding .after ≡ l .padding
 
 -- what `apk_list_read` says of a list, by the cells that it was lent
-pub record ListTold (l : ListAt) (rows : Lent (List ℕ)) (count place after : Lent ℕ) (r : ℕ) : Type 0 where
-  pub fits : length (sheetOf (l .events)) ≤ length (rows .before) → HandedOut l rows count place after r
+pub record ListTold (l : ListAt) (rows : Lent (List ℕ)) (count place after padding : Lent ℕ) (r : ℕ) : Type 0 where
+  pub fits : length (sheetOf (l .events)) ≤ length (rows .before) → HandedOut l rows count place after padding r
   -- too few cells: 20, and nothing changes
-  pub short : length (rows .before) < length (sheetOf (l .events)) → (r ≡ 20) × Unchanged rows × Unchanged count × Unchanged place × Unchanged after
+  pub short : length (rows .before) < length (sheetOf (l .events)) → (r ≡ 20) × Unchanged rows × Unchanged count × Unchanged place × Unchanged after × Unchanged padding
 
 pub record TrackRefusals : Type 0 where
-  -- one event, read: a refusal is one of 1 to 14, leaves the row, uses no byte, and says the running status that document 01 names
-  pub event-read : Always loader_track.events.«apk_event_read».Reads.Learnt (eventReadEntry (λ bytes at running bits row used after r.
+  -- one event, read: a refusal is one of 1 to 14, leaves the row, uses no byte, says the running status that document 01 names, and has no padding
+  pub event-read : Always loader_track.events.«apk_event_read».Reads.Learnt (eventReadEntry (λ bytes at running bits row used after padding r.
       Outcome (ofEvent (fromBits bits .strict)) r ((0 < used .after) × (at + used .after ≤ length bytes))
-      (Unchanged row × (used .after ≡ 0) × (after .after ≡ statusLeft running (readNumber (fromBits bits) (drop at bytes)) r))))
+      (Unchanged row × (used .after ≡ 0) × (after .after ≡ statusLeft running (readNumber (fromBits bits) (drop at bytes)) r) × (padding .after ≡ 0))))
   -- a list, read: 0 at the end, 255 full, else a refusal, which is one of 1 to 14, or 20 where the cells are too few
-  pub list-read-answers : Always loader_track.«list_read».«apk_list_read».Reads.Learnt (listReadEntry (λ bytes at running bits rows count place after r.
+  pub list-read-answers : Always loader_track.«list_read».«apk_list_read».Reads.Learnt (listReadEntry (λ bytes at running bits rows count place after padding r.
       (among (0 ∷ 255 ∷ []) r ≡ true) ⊎ OneOf (20 ∷ ofEvent (fromBits bits .strict)) r))
   -- it hands out a list of the events that stand there; those before a refusal stand, and it gives the place of the refused delta
-  pub list-read : Always loader_track.«list_read».«apk_list_read».Reads.Learnt (listReadEntry (λ bytes at running bits rows count place after r.
-      (l : ListAt) × ListStands (fromBits bits) bytes capacity running at l × ListTold l rows count place after r))
+  pub list-read : Always loader_track.«list_read».«apk_list_read».Reads.Learnt (listReadEntry (λ bytes at running bits rows count place after padding r.
+      (l : ListAt) × ListStands (fromBits bits) bytes capacity running at l × ListTold l rows count place after padding r))
   -- one row's event, measured and written: a refusal leaves every byte, the place and the running status as given; an acceptance changes no byte but
   -- its own
   pub event-length : Always loader_track.events.«apk_event_length».Reads.Learnt (eventLengthEntry (λ row payload running bits long after r.

@@ -35,8 +35,8 @@ pub record RowsBack (n after : ℕ) (payload rows : List ℕ) (count : ℕ) (raw
 
 -- rows that `apk_list_write` wrote: what `apk_list_read` reads of their bytes, strictly, from the same running status and into cells enough
 module _ (rows : List ℕ) (count : ℕ) (payload : List ℕ) (running : ℕ) (out : Lent (List ℕ)) (long after : Lent ℕ) where
-  abbrev pub RowsAgain : List ℕ → ℕ → ℕ → ℕ → Lent (List ℕ) → Lent ℕ → Lent ℕ → Lent ℕ → ℕ → Type 0
-  RowsAgain raw at running′ bits′ cells count′ place after′ r =
+  abbrev pub RowsAgain : List ℕ → ℕ → ℕ → ℕ → Lent (List ℕ) → Lent ℕ → Lent ℕ → Lent ℕ → Lent ℕ → ℕ → Type 0
+  RowsAgain raw at running′ bits′ cells count′ place after′ padding r =
       raw ≡ take (long .after) (out .after) → at ≡ 0 → running′ ≡ running → fromBits bits′ .strict ≡ true → count * width ≤ length (cells .before)
       → RowsBack (long .after) (after .after) payload rows count raw cells count′ place after′ r
 

@@ -18,5 +18,6 @@ pub mod EntryPoint1
 pub mod EntryPoint3
 pub mod Sounding
 pub mod SmfForms
+pub mod Padding
 pub mod Literals
 pub mod All

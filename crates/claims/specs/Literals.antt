@@ -106,7 +106,7 @@ pastCount = event 0 (meta endOfTrack)
 -- the one that the refusal leaves, as before, the status or none
 abbrev pub LeftBehind : Rules → List ℕ → ℕ → Running → ReadAt → ℕ → Type 0
 LeftBehind rules raw at running (readsAt a) left = left ≡ a .running
-LeftBehind rules raw at running (refusedAt n used after) left = left ≡ statusLeft (running .status) (readNumber (rulesOf rules) (drop at raw)) n
+LeftBehind rules raw at running (refusedAt n used after padding) left = left ≡ statusLeft (running .status) (readNumber (rulesOf rules) (drop at raw)) n
 
 -- lists and payloads
 pub record Records : Type 0 where

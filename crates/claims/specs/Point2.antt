@@ -7,7 +7,7 @@ use Prim.Native.Nat.{ℕ, _+_, _≤_}
 use lib.ListN.{length, drop, getD}
 use Rattle.smf.specs.Answer.{gives}
 use Rattle.smf.specs.Running.{isRunning}
-use Rattle.smf.specs.Number.{isNumber, valueFrom}
+use Rattle.smf.specs.Number.{isNumber, valueFrom, beyondFewest}
 use Rattle.smf.specs.Place.{NumberAt, Span}
 use Rattle.smf.specs.Write.{over}
 use Rattle.smf.specs.Event.{Event, eventAt, legal, encodeEvent, eventAfter, EventWritten, writeEvent, Same}
@@ -78,7 +78,7 @@ pub record Point2 : Type 0 where
       → wroteEvent r end ≡ ownWritten (running .status) e out at)
   -- SMF: bytes that are a number's, whatever follows, are read as the number that they stand for
   pub smf-numbers : ReadU7 (λ raw at rules r. (n rest : List ℕ) → isNumber 4 n ≡ true → drop at raw ≡ n ++ rest
-      → numberRead r ≡ gives (record { value = valueFrom 0 n; next = at + length n }))
+      → numberRead r ≡ gives (record { value = valueFrom 0 n; next = at + length n; padding = beyondFewest (length n) (valueFrom 0 n) }))
   -- and strictly, nothing else is read as a number
   pub smf-only : ReadU7 (λ raw at rules r. (m : NumberAt) → rules .strict ≡ true → numberRead r ≡ gives m
       → (n : List ℕ) × (isNumber 4 n ≡ true) × (m .value ≡ valueFrom 0 n) × (drop at raw ≡ n ++ drop (m .next) raw))

@@ -9,7 +9,7 @@ use lib.IntN.{ℤ, pos, negℤ}
 use lib.ListN.{length, take, drop}
 use Rattle.smf.specs.Answer.{gives}
 use Rattle.smf.specs.Running.{isRunning}
-use Rattle.smf.specs.Number.{isNumber, valueFrom}
+use Rattle.smf.specs.Number.{isNumber, valueFrom, beyondFewest}
 use Rattle.smf.specs.Header as smf
 use Rattle.smf.specs.Smpte.{time}
 use Rattle.smf.specs.Kind as kind
@@ -106,6 +106,20 @@ pub record EventForm (running : ℕ) (e : Event (List ℕ)) (after : ℕ) (bytes
   pub stands : BodyForm running (e .kind) body after
   pub whole : bytes ≡ delta ++ body
 
+-- Document 02, Q-2, of these forms: the padding of a payload is its length's; of an event its delta's and, where it has a payload, its length's
+abbrev pub payloadPadding : {p bytes : List ℕ} → PayloadForm p bytes → ℕ
+payloadPadding {p} f = beyondFewest (length (f .number)) (length p)
+
+abbrev pub bodyPadding : {running : ℕ} {k : Kind (List ℕ)} {bytes : List ℕ} {after : ℕ} → BodyForm running k bytes after → ℕ
+bodyPadding (channel low f) = 0
+bodyPadding (under low f) = 0
+bodyPadding (sysEx f) = payloadPadding f
+bodyPadding (escape f) = payloadPadding f
+bodyPadding (meta m f) = payloadPadding f
+
+abbrev pub eventPadding : {running : ℕ} {e : Event (List ℕ)} {after : ℕ} {bytes : List ℕ} → EventForm running e after bytes → ℕ
+eventPadding {e = e} f = beyondFewest (length (f .delta)) (e .delta) + bodyPadding (f .stands)
+
 -- SMF: the two bytes of a format, and of a division: bit 15 clear, ticks in a quarter-note; set, minus the frames in a second, and ticks in a frame
 pub data FormatForm : ℕ → (high low : ℕ) → Type 0 where
   format : {f : ℕ} → f ≤ 2 → FormatForm f 0 f
@@ -126,14 +140,14 @@ between at next s = drop at (take next s)
 pub record SmfForms : Type 0 where
   -- numbers and payloads, written; payloads read. Point 2's `smf-numbers` says how a number is read
   pub number-written : WriteVarlen (λ self out at r end. (n : ℕ) → writtenTo r ≡ gives n → Fewest (NumberForm (self .0)) (between at n end))
-  pub payload-read : ReadVarlenSlice (λ raw at rules r. (p s rest : List ℕ) → PayloadForm p s → drop at raw ≡ s ++ rest
-      → sliceRead r ≡ gives (record { start = at + length s - length p; length = length p }))
+  pub payload-read : ReadVarlenSlice (λ raw at rules r. (p s rest : List ℕ) (f : PayloadForm p s) → drop at raw ≡ s ++ rest
+      → sliceRead r ≡ gives (record { span = record { start = at + length s - length p; length = length p }; padding = payloadPadding f }))
   pub payload-written : WriteVarlenSlice (λ bytes slice out at r end. (n : ℕ) → writtenTo r ≡ gives n
       → Fewest (PayloadForm (take (slice .length) (drop (slice .start) bytes))) (between at n end))
   -- an event, from any running status: its payload ends where it ends
   pub event-read : TrackEventRead (λ raw at running rules r. (e : Event (List ℕ)) (after : ℕ) (s rest : List ℕ)
-      → isRunning (running .status) ≡ true → EventForm (running .status) e after s → drop at raw ≡ s ++ rest
-      → eventRead r ≡ readsAt (record { event = event (e .delta) (mapKind (spanBefore (at + length s)) (e .kind)); used = length s; running = after }))
+      → isRunning (running .status) ≡ true → (f : EventForm (running .status) e after s) → drop at raw ≡ s ++ rest
+      → eventRead r ≡ readsAt (record { event = event (e .delta) (mapKind (spanBefore (at + length s)) (e .kind)); used = length s; running = after; padding = eventPadding f }))
   pub event-written : WriteEvent (λ event running rules bytes out at r end. (n : ℕ) → wroteEvent r end .written .answer ≡ gives n
       → (e : Event (List ℕ)) × (legal (rulesOf rules) bytes (eventOf event) ≡ gives e)
       × Fewest (EventForm (running .status) e (wroteEvent r end .running)) (between at n end))

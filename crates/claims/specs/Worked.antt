@@ -27,9 +27,9 @@ pub data WorkedLine : Type 0 where
 abbrev pub readAlike : ℕ → List ℕ → ReadAt → WorkedLine
 readAlike running bytes answer = read running bytes answer answer
 
--- an event: its delta and kind, the bytes used, the running status after it
+-- an event: its delta and kind, the bytes used, the running status after it; none of these has padding
 abbrev pub gave : ℕ → Kind Span → ℕ → ℕ → ReadAt
-gave delta kind used running = readsAt (record { event = event delta kind; used = used; running = running })
+gave delta kind used running = readsAt (record { event = event delta kind; used = used; running = running; padding = 0 })
 
 -- a payload in the bytes: its start and length
 abbrev pub spanFrom : ℕ → ℕ → Span
@@ -39,7 +39,7 @@ spanFrom start length = record { start = start; length = length }
 abbrev pub noStatus : ℕ
 noStatus = 0
 
--- P1 to P12, in their order; `refusedAt` has the number, the bytes used and the running status that is left
+-- P1 to P12, in their order; `refusedAt` has the number, the bytes used, the running status that is left, and the padding
 abbrev pub table : List WorkedLine
 table =
     -- P1
@@ -51,21 +51,21 @@ table =
     -- P4
     ∷ readAlike noStatus (0x00 ∷ 0xFF ∷ 0x51 ∷ 0x02 ∷ 0x07 ∷ 0xA1 ∷ []) (gave 0 (meta (unknown 0x51 (spanFrom 4 2))) 6 noStatus)
     -- P5
-    ∷ readAlike noStatus (0x00 ∷ 0xFF ∷ 0x59 ∷ 0x01 ∷ 0x00 ∷ []) (refusedAt 14 0 noStatus)
+    ∷ readAlike noStatus (0x00 ∷ 0xFF ∷ 0x59 ∷ 0x01 ∷ 0x00 ∷ []) (refusedAt 14 0 noStatus 0)
     -- P6
     ∷ readAlike noStatus (0x00 ∷ 0xFF ∷ 0x59 ∷ 0x02 ∷ 0xFE ∷ 0x01 ∷ []) (gave 0 (meta (keySignature (negℤ (pos 2)) true)) 6 noStatus)
     -- P7
-    ∷ read noStatus (0x00 ∷ 0xF0 ∷ []) (gave 0 (sysEx (spanFrom 2 0)) 2 noStatus) (refusedAt 2 0 noStatus)
+    ∷ read noStatus (0x00 ∷ 0xF0 ∷ []) (gave 0 (sysEx (spanFrom 2 0)) 2 noStatus) (refusedAt 2 0 noStatus 0)
     -- P8
-    ∷ read noStatus (0xFF ∷ 0xFF ∷ 0xFF ∷ 0xFF ∷ 0x90 ∷ 0x3C ∷ 0x40 ∷ []) (gave 268435455 (midi 0 (noteOn 60 64)) 7 0x90) (refusedAt 3 0 noStatus)
+    ∷ read noStatus (0xFF ∷ 0xFF ∷ 0xFF ∷ 0xFF ∷ 0x90 ∷ 0x3C ∷ 0x40 ∷ []) (gave 268435455 (midi 0 (noteOn 60 64)) 7 0x90) (refusedAt 3 0 noStatus 0)
     -- P9, its two lines
-    ∷ readAlike noStatus (0x00 ∷ 0x90 ∷ 0x80 ∷ []) (refusedAt 8 0 0x90)
-    ∷ readAlike noStatus (0x00 ∷ 0x90 ∷ 0x3C ∷ 0x80 ∷ []) (refusedAt 9 0 0x90)
+    ∷ readAlike noStatus (0x00 ∷ 0x90 ∷ 0x80 ∷ []) (refusedAt 8 0 0x90 0)
+    ∷ readAlike noStatus (0x00 ∷ 0x90 ∷ 0x3C ∷ 0x80 ∷ []) (refusedAt 9 0 0x90 0)
     -- P10
-    ∷ readAlike 0x90 (0x00 ∷ 0xF8 ∷ []) (refusedAt 7 0 0x90)
+    ∷ readAlike 0x90 (0x00 ∷ 0xF8 ∷ []) (refusedAt 7 0 0x90 0)
     -- P11, and with 41 for 61
     ∷ readAlike noStatus (0x00 ∷ 0xFF ∷ 0x54 ∷ 0x05 ∷ 0x61 ∷ 0x00 ∷ 0x00 ∷ 0x1D ∷ 0x00 ∷ []) (gave 0 (meta (smpteOffset (time 1 0 0 29 0 30))) 9 noStatus)
-    ∷ readAlike noStatus (0x00 ∷ 0xFF ∷ 0x54 ∷ 0x05 ∷ 0x41 ∷ 0x00 ∷ 0x00 ∷ 0x1D ∷ 0x00 ∷ []) (refusedAt 13 0 noStatus)
+    ∷ readAlike noStatus (0x00 ∷ 0xFF ∷ 0x54 ∷ 0x05 ∷ 0x41 ∷ 0x00 ∷ 0x00 ∷ 0x1D ∷ 0x00 ∷ []) (refusedAt 13 0 noStatus 0)
     -- P12, its four numbers
     ∷ written 128 (0x81 ∷ 0x00 ∷ [])
     ∷ written 16383 (0xFF ∷ 0x7F ∷ [])

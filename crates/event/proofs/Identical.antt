@@ -42,13 +42,13 @@ pub eventOf-injective : {x y : TrackEvent} → eventOf x ≡ eventOf y → x ≡
 eventOf-injective = injective eventOf backEvent sameEvent
 
 backRead : smf.ReadAt → ReadEvent
-backRead (smf.readsAt e) = read.Event (record { event = backEvent (e .event); used = e .used; running = record { status = e .running } })
-backRead (smf.refusedAt n used running) = read.Refused (record { refusal = refusalOf n; used = used; running = record { status = running } })
+backRead (smf.readsAt e) = read.Event (record { event = backEvent (e .event); used = e .used; running = record { status = e .running }; padding = e .padding })
+backRead (smf.refusedAt n used running padding) = read.Refused (record { refusal = refusalOf n; used = used; running = record { status = running }; padding = padding })
 
 sameRead : (r : ReadEvent) → backRead (eventRead r) ≡ r
 unfolding backRead
-sameRead (read.Event e) = ap (λ (x : TrackEvent). read.Event (record { event = x; used = e .used; running = e .running })) (sameEvent (e .event))
-sameRead (read.Refused n) = ap (λ (x : Refusal). read.Refused (record { refusal = x; used = n .used; running = n .running })) (number-back (n .refusal))
+sameRead (read.Event e) = ap (λ (x : TrackEvent). read.Event (record { event = x; used = e .used; running = e .running; padding = e .padding })) (sameEvent (e .event))
+sameRead (read.Refused n) = ap (λ (x : Refusal). read.Refused (record { refusal = x; used = n .used; running = n .running; padding = n .padding })) (number-back (n .refusal))
 
 pub eventRead-injective : {x y : ReadEvent} → eventRead x ≡ eventRead y → x ≡ y
 eventRead-injective = injective eventRead backRead sameRead

@@ -23,11 +23,11 @@ kindOf (track.Meta m) = kind.meta (metaOf m)
 abbrev pub eventOf : TrackEvent → smf.Event Span
 eventOf e = smf.event (e .delta .0) (kindOf (e .kind))
 
--- an event, the bytes used, and the running status after it
-abbrev pub eventUsed : smf.Event Span → ℕ → ℕ → smf.ReadAt
-eventUsed e used running = smf.readsAt (record { event = e; used = used; running = running })
+-- an event, the bytes used, the running status after it, and its padding
+abbrev pub eventUsed : smf.Event Span → ℕ → ℕ → ℕ → smf.ReadAt
+eventUsed e used running padding = smf.readsAt (record { event = e; used = used; running = running; padding = padding })
 
 -- what `TrackEvent::read` answers
 abbrev pub eventRead : ReadEvent → smf.ReadAt
-eventRead (read.Event e) = eventUsed (eventOf (e .event)) (e .used) (e .running .status)
-eventRead (read.Refused n) = smf.refusedAt (numberOf (n .refusal)) (n .used) (n .running .status)
+eventRead (read.Event e) = eventUsed (eventOf (e .event)) (e .used) (e .running .status) (e .padding)
+eventRead (read.Refused n) = smf.refusedAt (numberOf (n .refusal)) (n .used) (n .running .status) (n .padding)

@@ -9,7 +9,7 @@ use Rattle.event.specs.declared.read.ReadEvent.{ReadEvent}
 -- document 01, "Refusal numbers": the running status after an event; of a refused read the one that the Rust is left with
 abbrev pub readRunning : ReadAt → ℕ
 readRunning (readsAt e) = e .running
-readRunning (refusedAt n used running) = running
+readRunning (refusedAt n used running padding) = running
 
 -- document 01, "What must change shape": the answer says what is read, and the running status at the end is the one that this leaves
 abbrev pub Leaves : ReadAt → ReadEvent → Running → Type 0

@@ -2,7 +2,7 @@
 // out; where it updates an option, the running status is handed back.
 ghost use mathlib.Core.Path.{_≡_};
 ghost use mathlib.Core.Bool.{true};
-ghost use Prim.Native.Nat.{_-_, _≤_, _<_};
+ghost use Prim.Native.Nat.{_+_, _-_, _≤_, _<_};
 ghost use lib.ListN.{length, drop};
 ghost use Rattle.smf.proofs.Place.{Sited};
 ghost use Rattle.smf.specs.Running.{isRunning};
@@ -12,6 +12,7 @@ ghost use Rattle.smf.specs.Event as smf;
 ghost use Rattle.base.specs.Rules.{rulesOf};
 ghost use Rattle.base.specs.Refusal.{numberOf};
 ghost use Rattle.event.specs.Event.{kindOf, eventUsed, eventRead};
+ghost use Rattle.event.specs.Begun.{deltaOf};
 use crate::TrackEvent;
 use crate::TrackEventKind;
 use base::Refusal;
@@ -34,16 +35,20 @@ pub struct EventAt {
     pub used: usize,
     // the running status after it
     pub running: Running,
+    // the padding of its delta, and of its payload's number where it has one
+    pub padding: usize,
     // the event
     pub event: TrackEvent,
 }
 
-// A refusal of an event. It uses no byte, and says so, as document 01 does.
+// A refusal of an event. It uses no byte and has no padding, and says so, as documents 01 and 02 do.
 pub struct EventRefused {
     // 0
     pub used: usize,
     // the running status that the Rust is left with
     pub running: Running,
+    // 0
+    pub padding: usize,
     // why
     pub refusal: Refusal,
 }
@@ -62,28 +67,32 @@ struct Begun {
     start: usize,
     // its delta
     delta: u28,
+    // the delta's padding
+    padding: usize,
 }
 
 // The answer for an event that is refused and leaves a running status.
 fn refused(refusal: Refusal, status: u8) -> ReadEvent
-    ensures { λ r. ⌜ eventRead r ≡ smf.refusedAt (numberOf refusal) 0 status ⌝ }
+    ensures { λ r. ⌜ eventRead r ≡ smf.refusedAt (numberOf refusal) 0 status 0 ⌝ }
 {
     ReadEvent::Refused(EventRefused {
         used: 0,
         running: Running { status },
+        padding: 0,
         refusal,
     })
 }
 
-// The answer for an event that ends before a place and leaves a running status.
-fn event(begun: Begun, kind: TrackEventKind, next: usize, status: u8) -> ReadEvent
+// The answer for an event that ends before a place, leaves a running status, and has this padding in all.
+fn event(begun: Begun, kind: TrackEventKind, next: usize, status: u8, padding: usize) -> ReadEvent
     requires { ⌜ begun .start ≤ next ⌝ }
-    ensures { λ r. ⌜ eventRead r ≡ eventUsed (smf.event (begun .delta .0) (kindOf kind)) (next - begun .start) status ⌝ }
+    ensures { λ r. ⌜ eventRead r ≡ eventUsed (smf.event (begun .delta .0) (kindOf kind)) (next - begun .start) status padding ⌝ }
 {
     let delta = begun.delta;
     ReadEvent::Event(EventAt {
         used: next - begun.start,
         running: Running { status },
+        padding,
         event: TrackEvent { delta, kind },
     })
 }
@@ -102,7 +111,7 @@ fn bytes_from(raw: &[u8], at: usize) -> usize
 // refusal leaves its status; too few data bytes come before one with bit 7 set.
 fn channel(raw: &[u8], at: usize, begun: Begun, status: u8, rules: Rules) -> ReadEvent
     requires { ⌜ (Sited (now raw) (begun .start) at) × (0x80 ≤ status) × (status < 0xF0) ⌝ }
-    ensures { λ r. ⌜ eventRead r ≡ smf.placed (now (raw .entry)) (begun .start) (smf.nameRaw (rulesOf rules) (readChannel status (begun .delta .0) (drop at (now (raw .entry))))) ⌝ }
+    ensures { λ r. ⌜ eventRead r ≡ smf.placed (now (raw .entry)) (begun .start) (smf.nameRaw (rulesOf rules) (readChannel status (deltaOf begun) (drop at (now (raw .entry))))) ⌝ }
 {
     let len = MidiMessage::msg_length(status);
     if bytes_from(raw, at) < len as usize {
@@ -120,6 +129,7 @@ fn channel(raw: &[u8], at: usize, begun: Begun, status: u8, rules: Rules) -> Rea
             TrackEventKind::Midi { channel, message },
             at + 1,
             status,
+            begun.padding,
         );
     }
     let second = raw[at + 1];
@@ -132,37 +142,40 @@ fn channel(raw: &[u8], at: usize, begun: Begun, status: u8, rules: Rules) -> Rea
         TrackEventKind::Midi { channel, message },
         at + 2,
         status,
+        begun.padding,
     )
 }
 
 // A meta message, from its type byte on. FF has cleared the running status, so that a refusal leaves none.
 fn meta(raw: &[u8], at: usize, begun: Begun, rules: Rules) -> ReadEvent
-    requires { ⌜ Sited (now raw) (begun .start) at ⌝ }
-    ensures { λ r. ⌜ eventRead r ≡ smf.placed (now (raw .entry)) (begun .start) (smf.nameRaw (rulesOf rules) (readMeta (rulesOf rules) (begun .delta .0) (drop at (now (raw .entry))))) ⌝ }
+    requires { ⌜ (Sited (now raw) (begun .start) at) × (begun .padding ≤ at) ⌝ }
+    ensures { λ r. ⌜ eventRead r ≡ smf.placed (now (raw .entry)) (begun .start) (smf.nameRaw (rulesOf rules) (readMeta (rulesOf rules) (deltaOf begun) (drop at (now (raw .entry))))) ⌝ }
 {
     match MetaMessage::read(raw, at, rules) {
         ReadMeta::Refused(refusal) => refused(refusal, 0),
         ReadMeta::Message(m) => {
             let message = m.message;
-            event(begun, TrackEventKind::Meta(message), m.next, 0)
+            let padding = begun.padding + m.padding;
+            event(begun, TrackEventKind::Meta(message), m.next, 0, padding)
         }
     }
 }
 
 // A system exclusive message or an escape, from its payload on. F0 and F7 have cleared the running status.
 fn payload(raw: &[u8], at: usize, begun: Begun, status: u8, rules: Rules) -> ReadEvent
-    requires { ⌜ (Sited (now raw) (begun .start) at) × (at ≤ length (now raw)) ⌝ }
-    ensures { λ r. ⌜ eventRead r ≡ smf.placed (now (raw .entry)) (begun .start) (smf.nameRaw (rulesOf rules) (withPayload (begun .delta .0) (system status) (readPayload (rulesOf rules) (drop at (now (raw .entry)))))) ⌝ }
+    requires { ⌜ (Sited (now raw) (begun .start) at) × (begun .padding ≤ at) × (at ≤ length (now raw)) ⌝ }
+    ensures { λ r. ⌜ eventRead r ≡ smf.placed (now (raw .entry)) (begun .start) (smf.nameRaw (rulesOf rules) (withPayload (deltaOf begun) (system status) (readPayload (rulesOf rules) (drop at (now (raw .entry)))))) ⌝ }
 {
     match read_varlen_slice(raw, at, rules) {
         ReadSlice::Refused(refusal) => refused(refusal, 0),
         ReadSlice::Slice(load) => {
             let range = load.range;
             let next = range.start + range.length;
+            let padding = begun.padding + load.padding;
             if status == 0xF0 {
-                return event(begun, TrackEventKind::SysEx(range), next, 0);
+                return event(begun, TrackEventKind::SysEx(range), next, 0, padding);
             }
-            event(begun, TrackEventKind::Escape(range), next, 0)
+            event(begun, TrackEventKind::Escape(range), next, 0, padding)
         }
     }
 }
@@ -177,8 +190,8 @@ fn status_kind(
     running: Running,
     rules: Rules,
 ) -> ReadEvent
-    requires { ⌜ (Sited (now raw) (begun .start) at) × (at ≤ length (now raw)) × (0xF0 ≤ status) ⌝ }
-    ensures { λ r. ⌜ eventRead r ≡ smf.placed (now (raw .entry)) (begun .start) (smf.nameRaw (rulesOf rules) (readStatus (rulesOf rules) (running .status) (begun .delta .0) status (drop at (now (raw .entry))))) ⌝ }
+    requires { ⌜ (Sited (now raw) (begun .start) at) × (begun .padding ≤ at) × (at ≤ length (now raw)) × (0xF0 ≤ status) ⌝ }
+    ensures { λ r. ⌜ eventRead r ≡ smf.placed (now (raw .entry)) (begun .start) (smf.nameRaw (rulesOf rules) (readStatus (rulesOf rules) (running .status) (deltaOf begun) status (drop at (now (raw .entry))))) ⌝ }
 {
     match status {
         0xFF => meta(raw, at, begun, rules),
@@ -194,8 +207,8 @@ fn status_kind(
 
 // What stands behind the delta: a status byte, or a data byte under running status.
 fn kind(raw: &[u8], at: usize, begun: Begun, running: Running, rules: Rules) -> ReadEvent
-    requires { ⌜ (Sited (now raw) (begun .start) at) × (isRunning (running .status) ≡ true) ⌝ }
-    ensures { λ r. ⌜ eventRead r ≡ smf.placed (now (raw .entry)) (begun .start) (smf.nameRaw (rulesOf rules) (readBody (rulesOf rules) (running .status) (begun .delta .0) (drop at (now (raw .entry))))) ⌝ }
+    requires { ⌜ (Sited (now raw) (begun .start) at) × (begun .padding ≤ at) × (isRunning (running .status) ≡ true) ⌝ }
+    ensures { λ r. ⌜ eventRead r ≡ smf.placed (now (raw .entry)) (begun .start) (smf.nameRaw (rulesOf rules) (readBody (rulesOf rules) (running .status) (deltaOf begun) (drop at (now (raw .entry))))) ⌝ }
 {
     let running_status = running.status;
     if raw.len() <= at {
@@ -229,7 +242,11 @@ impl TrackEvent {
                 ReadNumber::Refused(refusal) => refused(refusal, running.status),
                 ReadNumber::Number(number) => {
                     let delta = number.value;
-                    let begun = Begun { start: at, delta };
+                    let begun = Begun {
+                        start: at,
+                        delta,
+                        padding: number.padding,
+                    };
                     kind(raw, number.next, begun, running, rules)
                 }
             }

@@ -1,4 +1,5 @@
-// Document 01, "Listing program": standard input, read leniently as one list from no running status, a line for each event.
+// Document 01, "Listing program", with the padding of document 02, Q-2: standard input, read leniently as one list from
+// no running status, a line for each event.
 mod kinds;
 mod text;
 
@@ -27,7 +28,7 @@ fn stop(why: Stop) {
     }
 }
 
-// The first line: how many events, why reading stopped, where, and the running status there.
+// The first line: how many events, why reading stopped, where, the running status there, and the padding of the events.
 fn summary(read: ReadList) {
     let why = read.stop;
     word(b"events");
@@ -38,6 +39,8 @@ fn summary(read: ReadList) {
     number(read.place as u64);
     word(b" running");
     byte(read.running.status);
+    word(b" padding");
+    number(read.padding as u64);
     line_end();
 }
 

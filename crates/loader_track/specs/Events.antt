@@ -10,17 +10,22 @@ use Rattle.rows.specs.RowEvent.{rowJudged}
 -- the answer: 0 where an event was read, else the refusal's number
 abbrev pub readAnswered : ReadAt → ℕ
 readAnswered (readsAt e) = 0
-readAnswered (refusedAt n used running) = n
+readAnswered (refusedAt n used running padding) = n
 
 -- the row at the end: the event's; after a refusal, what it held
 abbrev pub readRow : ReadAt → List ℕ → List ℕ
 readRow (readsAt e) held = eventRow (e .event)
-readRow (refusedAt n used running) held = held
+readRow (refusedAt n used running padding) held = held
 
 -- the bytes used, which after a refusal are none
 abbrev pub readUsed : ReadAt → ℕ
 readUsed (readsAt e) = e .used
-readUsed (refusedAt n used running) = used
+readUsed (refusedAt n used running padding) = used
+
+-- the padding, which after a refusal is none
+abbrev pub readPadding : ReadAt → ℕ
+readPadding (readsAt e) = e .padding
+readPadding (refusedAt n used running padding) = padding
 
 -- how long the bytes of a row's event are, and the running status after it; document 01: 1, then 18, 19, 22, 23
 abbrev pub rowSize : Rules → ℕ → List ℕ → List ℕ → Answer Size

@@ -5,7 +5,7 @@ ghost use Rattle.smf.specs.Event.{eventAt};
 ghost use Rattle.event.specs.Lent.{readRunning};
 ghost use Rattle.write.specs.Size.{Size};
 ghost use Rattle.loader.specs.Entry.{fromBits, answered, leaves};
-ghost use Rattle.loader_track.specs.Events.{readAnswered, readRow, readUsed, rowSize, rowWritten};
+ghost use Rattle.loader_track.specs.Events.{readAnswered, readRow, readUsed, readPadding, rowSize, rowWritten};
 use base::Running;
 use event::TrackEvent;
 use event::read::ReadEvent;
@@ -17,8 +17,8 @@ use write::answer::WroteEvent;
 use write::one::row_length;
 use write::one::write_row;
 
-// The event at a place, from a running status: its row, the bytes used and the running status after it.
-// A refusal leaves the row as it came, uses no byte, and says the running status that it leaves.
+// The event at a place, from a running status: its row, the bytes used, the running status after it and its padding.
+// A refusal leaves the row as it came, uses no byte, says the running status that it leaves, and has no padding.
 #[no_mangle]
 pub extern "C" fn apk_event_read(
     bytes: &[u8],
@@ -28,17 +28,20 @@ pub extern "C" fn apk_event_read(
     row: &mut [u64; WIDTH],
     used: &mut usize,
     after: &mut u8,
+    padding: &mut usize,
 ) -> u8
     ensures answer { λ r. ⌜ r ≡ readAnswered (eventAt (fromBits bits) running (now (bytes .entry)) at) ⌝ }
     ensures row { λ r. ⌜ now (row .exit) ≡ readRow (eventAt (fromBits bits) running (now (bytes .entry)) at) (now (row .entry)) ⌝ }
     ensures used { λ r. ⌜ now (used .exit) ≡ readUsed (eventAt (fromBits bits) running (now (bytes .entry)) at) ⌝ }
     ensures after { λ r. ⌜ now (after .exit) ≡ readRunning (eventAt (fromBits bits) running (now (bytes .entry)) at) ⌝ }
+    ensures padding { λ r. ⌜ now (padding .exit) ≡ readPadding (eventAt (fromBits bits) running (now (bytes .entry)) at) ⌝ }
 {
     match TrackEvent::read(bytes, at, Running { status: running }, rules(bits)) {
         ReadEvent::Refused(n) => {
             let refusal = n.refusal;
             *used = n.used;
             *after = n.running.status;
+            *padding = n.padding;
             refusal.number()
         }
         ReadEvent::Event(e) => {
@@ -47,6 +50,7 @@ pub extern "C" fn apk_event_read(
             *row = event_row(event.delta.0, kind);
             *used = e.used;
             *after = e.running.status;
+            *padding = e.padding;
             0
         }
     }

@@ -74,11 +74,11 @@ pub metaOf-injective : {x y : MetaMessage} → metaOf x ≡ metaOf y → x ≡ y
 metaOf-injective = injective metaOf backMeta sameMeta
 
 backRead : Answer MetaAt → ReadMeta
-backRead = answered (λ m. read.Message (record { message = backMeta (m .message); next = m .next })) (λ n. read.Refused (refusalOf n))
+backRead = answered (λ m. read.Message (record { message = backMeta (m .message); next = m .next; padding = m .padding })) (λ n. read.Refused (refusalOf n))
 
 sameRead : (r : ReadMeta) → backRead (metaRead r) ≡ r
 unfolding backRead
-sameRead (read.Message m) = ap (λ (x : MetaMessage). read.Message (record { message = x; next = m .next })) (sameMeta (m .message))
+sameRead (read.Message m) = ap (λ (x : MetaMessage). read.Message (record { message = x; next = m .next; padding = m .padding })) (sameMeta (m .message))
 sameRead (read.Refused n) = ap read.Refused (number-back n)
 
 pub metaRead-injective : {x y : ReadMeta} → metaRead x ≡ metaRead y → x ≡ y

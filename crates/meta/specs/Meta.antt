@@ -45,11 +45,11 @@ metaOf (meta.KeySignature sharps minor) = kind.keySignature sharps minor
 metaOf (meta.SequencerSpecific r) = kind.sequencerSpecific (spanOf r)
 metaOf (meta.Unknown t r) = kind.unknown t (spanOf r)
 
--- a meta message and the place after it
-abbrev pub metaBefore : MetaMessage → ℕ → MetaAt
-metaBefore m next = record { message = metaOf m; next = next }
+-- a meta message, the place after it, and the padding of its length
+abbrev pub metaBefore : MetaMessage → ℕ → ℕ → MetaAt
+metaBefore m next padding = record { message = metaOf m; next = next; padding = padding }
 
 -- what `MetaMessage::read` answers
 abbrev pub metaRead : ReadMeta → Answer MetaAt
-metaRead (read.Message m) = gives (metaBefore (m .message) (m .next))
+metaRead (read.Message m) = gives (metaBefore (m .message) (m .next) (m .padding))
 metaRead (read.Refused n) = refuses (numberOf n)

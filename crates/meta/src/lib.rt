@@ -11,6 +11,7 @@ ghost use Rattle.smf.specs.Event.{mapMeta};
 ghost use Rattle.smf.specs.MetaAt.{metaAt};
 ghost use Rattle.smf.proofs.MetaAt.{calledAt};
 ghost use Rattle.base.specs.Rules.{rulesOf};
+ghost use Rattle.number.specs.Payload.{payloadOf};
 ghost use Rattle.meta.specs.Meta.{spanOf, numberMeta, metaOf, metaBefore, metaRead};
 ghost use Rattle.meta.specs.Narrow.{Narrow};
 use base::Range;
@@ -23,6 +24,7 @@ use header::SmpteTime;
 use header::field::word;
 use header::signed::from_byte;
 use header::smpte::TriedSmpteTime;
+use number::payload::Payload;
 use number::payload::ReadSlice;
 use number::payload::read_varlen_slice;
 
@@ -82,6 +84,8 @@ pub struct MetaAt {
     pub message: MetaMessage,
     // the place behind its payload
     pub next: usize,
+    // the padding of its payload's number
+    pub padding: usize,
 }
 
 // What reading a meta message answers.
@@ -93,21 +97,25 @@ pub enum ReadMeta {
 }
 
 // The answer for a message of a payload that was just read: it ends where the payload ends.
-fn message(message: MetaMessage, load: Range) -> ReadMeta
-    requires { ⌜ load .start + load .length < 2 ^ 64 ⌝ }
-    ensures { λ r. ⌜ metaRead r ≡ gives (metaBefore message (load .start + load .length)) ⌝ }
+fn message(message: MetaMessage, load: Payload) -> ReadMeta
+    requires { ⌜ load .range .start + load .range .length < 2 ^ 64 ⌝ }
+    ensures { λ r. ⌜ metaRead r ≡ gives (metaBefore message (load .range .start + load .range .length) (load .padding)) ⌝ }
 {
-    let next = load.start + load.length;
-    ReadMeta::Message(MetaAt { message, next })
+    let next = load.range.start + load.range.length;
+    ReadMeta::Message(MetaAt {
+        message,
+        next,
+        padding: load.padding,
+    })
 }
 
 // 00, a track number: the first two bytes of the payload, or missing where there are fewer.
-fn track_number(raw: &[u8], load: Range) -> OptionU16
-    requires { ⌜ load .start + load .length ≤ length (now raw) ⌝ }
-    ensures { λ r. ⌜ numberMeta r ≡ mapMeta (λ p. spanOf load) (trackNumberOf (bytesOf (now (raw .entry)) (spanOf load))) ⌝ }
+fn track_number(raw: &[u8], load: Payload) -> OptionU16
+    requires { ⌜ load .range .start + load .range .length ≤ length (now raw) ⌝ }
+    ensures { λ r. ⌜ numberMeta r ≡ mapMeta (λ p. spanOf (load .range)) (trackNumberOf (bytesOf (now (raw .entry)) (spanOf (load .range)))) ⌝ }
 {
-    let start = load.start;
-    if 2 <= load.length {
+    let start = load.range.start;
+    if 2 <= load.range.length {
         OptionU16::Some(word(raw[start], raw[start + 1]))
     } else {
         OptionU16::None
@@ -126,13 +134,14 @@ fn narrow_kind(type_byte: u8, byte: u8) -> MetaMessage
 
 // 20 and 21, a channel and a port: the first byte of the payload. One that is not below the limit is refused by 12, or
 // leniently keeps its low bits.
-fn narrow(type_byte: u8, limit: u8, raw: &[u8], load: Range, rules: Rules) -> ReadMeta
-    requires { ⌜ (load .start + load .length ≤ length (now raw)) × Narrow «type_byte» limit ⌝ }
-    ensures { λ r. ⌜ metaRead r ≡ calledAt (rulesOf rules) (now (raw .entry)) «type_byte» (spanOf load) ⌝ }
+fn narrow(type_byte: u8, limit: u8, raw: &[u8], load: Payload, rules: Rules) -> ReadMeta
+    requires { ⌜ (load .range .start + load .range .length ≤ length (now raw)) × Narrow «type_byte» limit ⌝ }
+    ensures { λ r. ⌜ metaRead r ≡ calledAt (rulesOf rules) (now (raw .entry)) «type_byte» (payloadOf load) ⌝ }
 {
-    let start = load.start;
-    if load.length < 1 {
-        return message(MetaMessage::Unknown(type_byte, load), load);
+    let range = load.range;
+    let start = range.start;
+    if range.length < 1 {
+        return message(MetaMessage::Unknown(type_byte, range), load);
     }
     let byte = raw[start];
     if byte < limit {
@@ -145,13 +154,14 @@ fn narrow(type_byte: u8, limit: u8, raw: &[u8], load: Range, rules: Rules) -> Re
 }
 
 // 51, a tempo: three bytes, the highest first.
-fn tempo(raw: &[u8], load: Range, rules: Rules) -> ReadMeta
-    requires { ⌜ load .start + load .length ≤ length (now raw) ⌝ }
-    ensures { λ r. ⌜ metaRead r ≡ calledAt (rulesOf rules) (now (raw .entry)) 0x51 (spanOf load) ⌝ }
+fn tempo(raw: &[u8], load: Payload, rules: Rules) -> ReadMeta
+    requires { ⌜ load .range .start + load .range .length ≤ length (now raw) ⌝ }
+    ensures { λ r. ⌜ metaRead r ≡ calledAt (rulesOf rules) (now (raw .entry)) 0x51 (payloadOf load) ⌝ }
 {
-    let start = load.start;
-    if load.length < 3 {
-        return message(MetaMessage::Unknown(0x51, load), load);
+    let range = load.range;
+    let start = range.start;
+    if range.length < 3 {
+        return message(MetaMessage::Unknown(0x51, range), load);
     }
     let high = raw[start] as u32;
     let low = word(raw[start + 1], raw[start + 2]) as u32;
@@ -159,13 +169,14 @@ fn tempo(raw: &[u8], load: Range, rules: Rules) -> ReadMeta
 }
 
 // 54, an SMPTE time of five bytes; 13 where it is outside its ranges.
-fn smpte_offset(raw: &[u8], load: Range, rules: Rules) -> ReadMeta
-    requires { ⌜ load .start + load .length ≤ length (now raw) ⌝ }
-    ensures { λ r. ⌜ metaRead r ≡ calledAt (rulesOf rules) (now (raw .entry)) 0x54 (spanOf load) ⌝ }
+fn smpte_offset(raw: &[u8], load: Payload, rules: Rules) -> ReadMeta
+    requires { ⌜ load .range .start + load .range .length ≤ length (now raw) ⌝ }
+    ensures { λ r. ⌜ metaRead r ≡ calledAt (rulesOf rules) (now (raw .entry)) 0x54 (payloadOf load) ⌝ }
 {
-    let start = load.start;
-    if load.length < 5 {
-        return message(MetaMessage::Unknown(0x54, load), load);
+    let range = load.range;
+    let start = range.start;
+    if range.length < 5 {
+        return message(MetaMessage::Unknown(0x54, range), load);
     }
     let bytes = [
         raw[start],
@@ -181,13 +192,14 @@ fn smpte_offset(raw: &[u8], load: Range, rules: Rules) -> ReadMeta
 }
 
 // 58, a time signature of four bytes, which may be any.
-fn time_signature(raw: &[u8], load: Range, rules: Rules) -> ReadMeta
-    requires { ⌜ load .start + load .length ≤ length (now raw) ⌝ }
-    ensures { λ r. ⌜ metaRead r ≡ calledAt (rulesOf rules) (now (raw .entry)) 0x58 (spanOf load) ⌝ }
+fn time_signature(raw: &[u8], load: Payload, rules: Rules) -> ReadMeta
+    requires { ⌜ load .range .start + load .range .length ≤ length (now raw) ⌝ }
+    ensures { λ r. ⌜ metaRead r ≡ calledAt (rulesOf rules) (now (raw .entry)) 0x58 (payloadOf load) ⌝ }
 {
-    let start = load.start;
-    if load.length < 4 {
-        return message(MetaMessage::Unknown(0x58, load), load);
+    let range = load.range;
+    let start = range.start;
+    if range.length < 4 {
+        return message(MetaMessage::Unknown(0x58, range), load);
     }
     let signature = MetaMessage::TimeSignature(
         raw[start],
@@ -200,12 +212,13 @@ fn time_signature(raw: &[u8], load: Range, rules: Rules) -> ReadMeta
 
 // 59, a key signature: refused by 14 where it is short, and not made `Unknown` as its neighbours are, since the Rust
 // does so.
-fn key_signature(raw: &[u8], load: Range, rules: Rules) -> ReadMeta
-    requires { ⌜ load .start + load .length ≤ length (now raw) ⌝ }
-    ensures { λ r. ⌜ metaRead r ≡ calledAt (rulesOf rules) (now (raw .entry)) 0x59 (spanOf load) ⌝ }
+fn key_signature(raw: &[u8], load: Payload, rules: Rules) -> ReadMeta
+    requires { ⌜ load .range .start + load .range .length ≤ length (now raw) ⌝ }
+    ensures { λ r. ⌜ metaRead r ≡ calledAt (rulesOf rules) (now (raw .entry)) 0x59 (payloadOf load) ⌝ }
 {
-    let start = load.start;
-    if load.length < 2 {
+    let range = load.range;
+    let start = range.start;
+    if range.length < 2 {
         return ReadMeta::Refused(Refusal::KeySignatureShort);
     }
     let sharps = from_byte(raw[start]);
@@ -232,15 +245,16 @@ fn text(type_byte: u8, load: Range) -> MetaMessage
 }
 
 // The message of a type and a payload. The payload is whole before 12, 13 or 14 is asked of it.
-fn named(type_byte: u8, raw: &[u8], load: Range, rules: Rules) -> ReadMeta
-    requires { ⌜ load .start + load .length ≤ length (now raw) ⌝ }
-    ensures { λ r. ⌜ metaRead r ≡ calledAt (rulesOf rules) (now (raw .entry)) «type_byte» (spanOf load) ⌝ }
+fn named(type_byte: u8, raw: &[u8], load: Payload, rules: Rules) -> ReadMeta
+    requires { ⌜ load .range .start + load .range .length ≤ length (now raw) ⌝ }
+    ensures { λ r. ⌜ metaRead r ≡ calledAt (rulesOf rules) (now (raw .entry)) «type_byte» (payloadOf load) ⌝ }
 {
+    let range = load.range;
     if type_byte == 0x00 {
         return message(MetaMessage::TrackNumber(track_number(raw, load)), load);
     }
     if type_byte < 0x0A {
-        return message(text(type_byte, load), load);
+        return message(text(type_byte, range), load);
     }
     match type_byte {
         0x20 => narrow(0x20, 16, raw, load, rules),
@@ -250,8 +264,8 @@ fn named(type_byte: u8, raw: &[u8], load: Range, rules: Rules) -> ReadMeta
         0x54 => smpte_offset(raw, load, rules),
         0x58 => time_signature(raw, load, rules),
         0x59 => key_signature(raw, load, rules),
-        0x7F => message(MetaMessage::SequencerSpecific(load), load),
-        _ => message(MetaMessage::Unknown(type_byte, load), load),
+        0x7F => message(MetaMessage::SequencerSpecific(range), load),
+        _ => message(MetaMessage::Unknown(type_byte, range), load),
     }
 }
 
@@ -266,10 +280,7 @@ impl MetaMessage {
         let type_byte = raw[at];
         match read_varlen_slice(raw, at + 1, rules) {
             ReadSlice::Refused(refusal) => ReadMeta::Refused(refusal),
-            ReadSlice::Slice(load) => {
-                let range = load.range;
-                named(type_byte, raw, range, rules)
-            }
+            ReadSlice::Slice(load) => named(type_byte, raw, load, rules),
         }
     }
 }

@@ -26,7 +26,7 @@ pub triedU28-injective : {x y : TriedU28} → triedU28 x ≡ triedU28 y → x �
 triedU28-injective = injective triedU28 backU28 sameU28
 
 back-number : Answer NumberAt → ReadNumber
-back-number (gives x) = number.Number (record { value = record { 0 = x .value }; next = x .next })
+back-number (gives x) = number.Number (record { value = record { 0 = x .value }; next = x .next; padding = x .padding })
 back-number (refuses n) = number.Refused (refusalOf n)
 
 same-number : (r : ReadNumber) → back-number (numberRead r) ≡ r

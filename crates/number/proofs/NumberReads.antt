@@ -10,9 +10,9 @@ use lib.ListN.{length, getD, drop, drop-of-length-le}
 use lib.Seq.{drop-cons}
 use borrow.Author.Tests.{lt-ltb, le-ltb}
 use Rattle.smf.specs.Answer.{Answer, gives, refuses, Rules}
-use Rattle.smf.specs.Number.{joined, Numeral, numeral, numberFrom, readNumber}
+use Rattle.smf.specs.Number.{joined, encodeNumber, Numeral, numeral, numberFrom, readNumber}
 use Rattle.smf.specs.Place.{NumberAt, numberAt}
-use Rattle.smf.proofs.Place.{Sited, site-begun, site-next, number-placed, number-refused}
+use Rattle.smf.proofs.Place.{Sited, site-begun, site-next, site-bounds, number-placed, number-refused}
 
 -- the bits leave room for k more groups of seven under 28 bits
 abbrev Room : ℕ → ℕ → Type 0
@@ -36,7 +36,15 @@ pub begun : (rules : Rules) (s : List ℕ) (at : ℕ) → Walking rules s at 0 a
 unfolding readNumber
 begun rules s at = record { some = omega arith; room = omega arith; site = site-begun s at; same = refl }
 
+-- a number of these bits that was read up to a place
+abbrev found : ℕ → ℕ → ℕ → NumberAt
+found at bits place = record { value = bits; next = place; padding = place - at - length (encodeNumber bits) }
+
 module _ {rules : Rules} {s : List ℕ} {at bits place k : ℕ} (w : Walking rules s at bits place k) where
+  -- the place is not before the first
+  pub onward : at ≤ place
+  onward = site-bounds s at place (w .site)
+
   -- so the bits have room for another byte's
   pub room-more : bits < 2 ^ 21
   room-more = omega (arith, mul-le-mul-left (bits + 1) (pow-le-pow-right {n = 128} (omega arith) {i = 1} {j = k} (omega (arith, w .some))), w .room)
@@ -49,7 +57,7 @@ module _ {rules : Rules} {s : List ℕ} {at bits place k : ℕ} (w : Walking rul
   unfolding numberFrom
   cut-strict h t = sym (number-refused rules s at (ended h ∙ rw t))
 
-  pub cut-lenient : length s ≤ place → rules .strict ≡ false → gives (record { value = bits; next = place }) ≡ numberAt rules s at
+  pub cut-lenient : length s ≤ place → rules .strict ≡ false → gives (found at bits place) ≡ numberAt rules s at
   unfolding numberFrom
   cut-lenient h t = sym (number-placed rules s at (ended h ∙ rw (t, drop-of-length-le s {i = place} h)) (w .site))
 
@@ -57,7 +65,7 @@ module _ {rules : Rules} {s : List ℕ} {at bits place k : ℕ} (w : Walking rul
   at-byte : place < length s → readNumber rules (drop at s) ≡ numberFrom rules (suc (k - 1)) bits (getD s place 0 ∷ drop (place + 1) s)
   at-byte h = let n : k ≡ suc (k - 1) = omega (arith, w .some) in sym (w .same) ∙ rw (← n, drop-cons s place 0 h, add-one place)
 
-  pub last : place < length s → getD s place 0 < 128 → gives (record { value = joined bits (getD s place 0); next = place + 1 }) ≡ numberAt rules s at
+  pub last : place < length s → getD s place 0 < 128 → gives (found at (joined bits (getD s place 0)) (place + 1)) ≡ numberAt rules s at
   unfolding numberFrom
   last h b = sym (number-placed rules s at (at-byte h ∙ rw (lt-ltb _ _ b)) (site-next s at place h (w .site)))
 
@@ -71,7 +79,7 @@ module _ {rules : Rules} {s : List ℕ} {at bits place k : ℕ} (w : Walking rul
   fourth-strict h b z t = sym (number-refused rules s at (sym (past h b) ∙ rw (z, t)))
 
   pub fourth-lenient : place < length s → 128 ≤ getD s place 0 → k - 1 ≡ 0 → rules .strict ≡ false
-      → gives (record { value = joined bits (getD s place 0); next = place + 1 }) ≡ numberAt rules s at
+      → gives (found at (joined bits (getD s place 0)) (place + 1)) ≡ numberAt rules s at
   unfolding numberFrom
   fourth-lenient h b z t = sym (number-placed rules s at (sym (past h b) ∙ rw (z, t)) (site-next s at place h (w .site)))
 

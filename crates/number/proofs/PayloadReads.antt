@@ -20,7 +20,7 @@ module _ (rules : Rules) (s : List ℕ) (at : ℕ) {r : ReadNumber} (read : numb
   slice-refused e = sym (payload-refused rules s at (sym read ∙ ap numberRead e))
 
   module _ {n : NumberAt} (e : r ≡ Number n) where
-    pub slice-whole : {left : ℕ} → left ≡ length s - n .next → n .value .0 ≤ left → gives (record { start = n .next; length = n .value .0 }) ≡ payloadAt rules s at
+    pub slice-whole : {left : ℕ} → left ≡ length s - n .next → n .value .0 ≤ left → gives (record { span = record { start = n .next; length = n .value .0 }; padding = n .padding }) ≡ payloadAt rules s at
     slice-whole count h = sym (payload-whole rules s at _ (sym read ∙ ap numberRead e) (omega arith))
 
     -- what is left there, as it was counted
@@ -28,5 +28,5 @@ module _ (rules : Rules) (s : List ℕ) (at : ℕ) {r : ReadNumber} (read : numb
       pub slice-cut-strict : rules .strict ≡ true → refuses 11 ≡ payloadAt rules s at
       slice-cut-strict t = sym (payload-cut-strict rules s at _ (sym read ∙ ap numberRead e) (omega arith) t)
 
-      pub slice-cut-lenient : rules .strict ≡ false → gives (record { start = n .next; length = left }) ≡ payloadAt rules s at
+      pub slice-cut-lenient : rules .strict ≡ false → gives (record { span = record { start = n .next; length = left }; padding = n .padding }) ≡ payloadAt rules s at
       slice-cut-lenient t = sym (payload-cut-lenient rules s at _ (sym read ∙ ap numberRead e) (omega arith) t ∙ rw count)

@@ -17,9 +17,9 @@ abbrev pub triedU28 : TriedU28 → Answer ℕ
 triedU28 (u28.Made x) = gives (x .0)
 triedU28 (u28.Refused n) = refuses (numberOf n)
 
--- a number and the place after it, or the number of a refusal
+-- a number, the place after it and its padding, or the number of a refusal
 abbrev pub numberRead : ReadNumber → Answer NumberAt
-numberRead (number.Number n) = gives (record { value = n .value .0; next = n .next })
+numberRead (number.Number n) = gives (record { value = n .value .0; next = n .next; padding = n .padding })
 numberRead (number.Refused n) = refuses (numberOf n)
 
 -- the place after what was written, or the number of a refusal

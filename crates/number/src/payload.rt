@@ -18,6 +18,8 @@ use base::Rules;
 pub struct Payload {
     // where it stands in the bytes lent; its event ends where it ends
     pub range: Range,
+    // the padding of its number
+    pub padding: usize,
 }
 
 // What reading a payload answers.
@@ -47,10 +49,11 @@ pub fn read_varlen_slice(raw: &[u8], at: usize, rules: Rules) -> ReadSlice
         ReadNumber::Number(len) => {
             let n = len.value.0 as usize;
             let start = len.next;
+            let padding = len.padding;
             let left = bytes_from(raw, start);
             if n <= left {
                 let range = Range { start, length: n };
-                return ReadSlice::Slice(Payload { range });
+                return ReadSlice::Slice(Payload { range, padding });
             }
             if rules.strict {
                 return ReadSlice::Refused(Refusal::PayloadCutOff);
@@ -59,7 +62,7 @@ pub fn read_varlen_slice(raw: &[u8], at: usize, rules: Rules) -> ReadSlice
                 start,
                 length: left,
             };
-            ReadSlice::Slice(Payload { range })
+            ReadSlice::Slice(Payload { range, padding })
         }
     }
 }

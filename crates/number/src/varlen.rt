@@ -1,6 +1,7 @@
 // Variable-length numbers, read and written. Where the Rust shrinks a slice as it reads, a place goes in and the place
 // behind what was read comes out.
 ghost use mathlib.Core.Path.{_≡_};
+ghost use Prim.Native.Nat.{_-_};
 ghost use lib.ListN.{length};
 ghost use Rattle.smf.specs.Number.{encodeNumber};
 ghost use Rattle.smf.specs.Place.{numberAt};
@@ -59,6 +60,8 @@ pub struct NumberAt {
     pub value: u28,
     // the place behind its last byte
     pub next: usize,
+    // how many bytes it has beyond the fewest that hold its value
+    pub padding: usize,
 }
 
 // What reading a number answers.
@@ -114,10 +117,24 @@ impl u28 {
                 break int; // use the 4 bytes as they are
             }
         };
+        let value = u28(bits);
+        let padding = value.padding(place - at);
         ReadNumber::Number(NumberAt {
-            value: u28(bits),
+            value,
             next: place,
+            padding,
         })
+    }
+
+    // How many of the bytes used for the number are beyond the fewest that hold it; none where no byte was there.
+    fn padding(self, used: usize) -> usize
+        ensures { λ r. ⌜ r ≡ used - length (encodeNumber (self .0)) ⌝ }
+    {
+        let fewest = self.varlen_length();
+        if used < fewest {
+            return 0;
+        }
+        used - fewest
     }
 
     // How many bytes the number has in its shortest form, 1 to 4.

@@ -12,7 +12,7 @@ use Rattle.rows.specs.declared.lists.ReadRows.{ReadRows}
 use Rattle.rows.specs.declared.lists.ReadRows.the-variants as read
 
 backRead : SheetAt → RowsRead
-backRead s = record { count = s .count; stop = backStop (s .stop); place = s .place; running = record { status = s .running } }
+backRead s = record { count = s .count; stop = backStop (s .stop); place = s .place; running = record { status = s .running }; padding = s .padding }
 
 sameRead : (r : RowsRead) → backRead (rowsRead r) ≡ r
 unfolding backRead

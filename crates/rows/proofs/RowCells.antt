@@ -55,14 +55,14 @@ sheet-over es e before n counted =
 
 -- what is left where nothing is read
 pub unread : (cap : ℕ) (rules : Rules) (s : List ℕ) (at first : ℕ) (cells : List ℕ) → isRunning first ≡ false
-    → record { cells = cells; answer = gives (record { count = 0; stop = stopped 1; place = at; running = first }) } ≡ readSheet (listAt rules cap first s at) cells
+    → record { cells = cells; answer = gives (record { count = 0; stop = stopped 1; place = at; running = first; padding = 0 }) } ≡ readSheet (listAt rules cap first s at) cells
 unfolding sheetOf
 unread cap rules s at first cells v = rw (list-invalid rules cap first s at v, ← put-fits [] cells 0 (omega arith))
 
 -- an event that a list takes is one of so many, and leaves a valid running status
 module _ (rules : Rules) (cap : ℕ) (s : List ℕ) (r : Reader) where
   abbrev Known : smf.Next → Type 0
-  Known (takes e r′) = (r .count < cap) × (isRunning (r′ .running) ≡ true)
+  Known (takes e padding r′) = (r .count < cap) × (isRunning (r′ .running) ≡ true)
   Known (stops why) = Unit {0}
 
   event-known : r .count < cap → (a : Reading (Taken (Event (List ℕ)))) → readEvent rules (r .running) (drop (r .place) s) ≡ a → Known (stepOn r (placed s (r .place) a))
@@ -77,24 +77,24 @@ module _ (rules : Rules) (cap : ℕ) (s : List ℕ) (r : Reader) where
       (λ t. pick-test Known (leb cap (r .count)) (λ u. tt)
       (λ u. event-known (omega (arith, leb-false cap (r .count) u)) (readEvent rules (r .running) (drop (r .place) s)) refl))
 
-  module _ {e : Event Span} {r′ : Reader} (q : nextAt rules cap s r ≡ takes e r′) where
+  module _ {e : Event Span} {padding : ℕ} {r′ : Reader} (q : nextAt rules cap s r ≡ takes e padding r′) where
     pub next-room : r .count < cap
     next-room = subst Known q next-known .0
 
     pub next-runs : isRunning (r′ .running) ≡ true
     next-runs = subst Known q next-known .1
 
-pub record Laying (cap : ℕ) (rules : Rules) (s : List ℕ) (at first : ℕ) (before out : List ℕ) (r : Reader) : Type 0 where
+pub record Laying (cap : ℕ) (rules : Rules) (s : List ℕ) (at first : ℕ) (before out : List ℕ) (padding : ℕ) (r : Reader) : Type 0 where
   pub events : List (Event Span)
-  pub sofar : Sofar cap rules s at first events r
+  pub sofar : Sofar cap rules s at first events padding r
   pub runs : isRunning (r .running) ≡ true
   pub rows : out ≡ over (sheetOf events) before 0
 
-pub laying-first : (cap : ℕ) (rules : Rules) (s : List ℕ) (at first : ℕ) (before : List ℕ) → isRunning first ≡ true → Laying cap rules s at first before before (readerAt at first)
+pub laying-first : (cap : ℕ) (rules : Rules) (s : List ℕ) (at first : ℕ) (before : List ℕ) → isRunning first ≡ true → Laying cap rules s at first before before 0 (readerAt at first)
 unfolding sheetOf
 laying-first cap rules s at first before v = record { events = []; sofar = begun cap rules s at first v; runs = v; rows = refl }
 
-module _ {cap : ℕ} {rules : Rules} {s : List ℕ} {at first : ℕ} {before out : List ℕ} {r : Reader} (room : cap * width ≤ length before) (g : Laying cap rules s at first before out r) where
+module _ {cap : ℕ} {rules : Rules} {s : List ℕ} {at first : ℕ} {before out : List ℕ} {padding : ℕ} {r : Reader} (room : cap * width ≤ length before) (g : Laying cap rules s at first before out padding r) where
   front : length (sheetOf (g .events)) ≡ r .count * width
   front = sheet-length (g .events) ∙ ap (λ (k : ℕ). k * width) (g .sofar .counted)
 
@@ -106,11 +106,11 @@ module _ {cap : ℕ} {rules : Rules} {s : List ℕ} {at first : ℕ} {before out
 
   -- the answer, where the step stops
   pub laid : {why : smf.Stop} → nextAt rules cap s r ≡ stops why
-      → record { cells = out; answer = gives (record { count = r .count; stop = why; place = r .place; running = r .running }) } ≡ readSheet (listAt rules cap first s at) before
+      → record { cells = out; answer = gives (record { count = r .count; stop = why; place = r .place; running = r .running; padding = padding }) } ≡ readSheet (listAt rules cap first s at) before
   laid e = rw (all (g .sofar) e, ← put-fits (sheetOf (g .events)) before 0 fits, g .sofar .counted, g .rows)
 
-  module _ {own : Event Span} {r′ : Reader} (e : nextAt rules cap s r ≡ takes own r′) where
-    pub laying-more : (end : List ℕ) → end ≡ over (eventRow own) out (r .count * width) → Laying cap rules s at first before end r′
+  module _ {own : Event Span} {more : ℕ} {r′ : Reader} (e : nextAt rules cap s r ≡ takes own more r′) where
+    pub laying-more : (end : List ℕ) → end ≡ over (eventRow own) out (r .count * width) → Laying cap rules s at first before end (padding + more) r′
     laying-more end put =
         record {
           events = g .events ++ (own ∷ []);
@@ -123,28 +123,32 @@ module _ {cap : ℕ} {rules : Rules} {s : List ℕ} {at first : ℕ} {before out
         }
 
 -- what a step that was laid says of the step that the list takes
-pub record LaidOn (n : smf.Next) (count : ℕ) (cells end : List ℕ) (r : Reader) : Type 0 where
+pub record LaidOn (n : smf.Next) (count : ℕ) (cells end : List ℕ) (padding : ℕ) (r : Reader) : Type 0 where
   pub event : Event Span
-  pub is : n ≡ takes event r
+  pub is : n ≡ takes event padding r
   pub put : end ≡ over (eventRow event) cells (count * width)
 
+abbrev padded : Onward → ℕ → ℕ
+padded (goes padding r) none = padding
+padded (halts why) none = none
+
 abbrev reader : Onward → Reader → Reader
-reader (goes r) none = r
+reader (goes padding r) none = r
 reader (halts why) none = none
 
 abbrev why : Onward → smf.Stop → smf.Stop
-why (goes r) none = none
+why (goes padding r) none = none
 why (halts w) none = w
 
 abbrev which : Onward → ℕ
-which (goes r) = 0
+which (goes padding r) = 0
 which (halts w) = 1
 
-pub laid-on : (n : smf.Next) (count : ℕ) {cells end : List ℕ} {r : Reader} → record { onward = goes r; cells = end } ≡ laidNext n count cells → LaidOn n count cells end r
-laid-on (takes e r′) count {r = r} q =
+pub laid-on : (n : smf.Next) (count : ℕ) {cells end : List ℕ} {padding : ℕ} {r : Reader} → record { onward = goes padding r; cells = end } ≡ laidNext n count cells → LaidOn n count cells end padding r
+laid-on (takes e more r′) count {padding = padding} {r = r} q =
     record {
       event = e;
-      is = ap (λ (l : LaidStep). takes e (reader (l .onward) r)) (sym q);
+      is = ap (λ (l : LaidStep). takes e (padded (l .onward) padding) (reader (l .onward) r)) (sym q);
       put = ap (λ (l : LaidStep). l .cells) q;
     }
 laid-on (stops w) count q = absurd (omega (arith, ap (λ (l : LaidStep). which (l .onward)) q))
@@ -159,4 +163,4 @@ laid-stop (stops w′) count {w = w} q =
       is = ap (λ (l : LaidStep). stops (why (l .onward) w)) (sym q);
       kept = ap (λ (l : LaidStep). l .cells) q;
     }
-laid-stop (takes e r) count q = absurd (omega (arith, ap (λ (l : LaidStep). which (l .onward)) q))
+laid-stop (takes e padding r) count q = absurd (omega (arith, ap (λ (l : LaidStep). which (l .onward)) q))

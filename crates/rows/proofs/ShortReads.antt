@@ -12,13 +12,14 @@ use lib.Seq.{drop-cons}
 use borrow.Author.Tests.{lt-ltb, le-leb, lt-leb, eqb-true, eqb-false}
 use Rattle.smf.specs.Answer.{Rules, gives}
 use Rattle.smf.specs.Running.{isRunning}
-use Rattle.smf.specs.Number.{numeral, readNumber, numberFrom}
+use Rattle.smf.specs.Number.{encodeNumber, numeral, readNumber, numberFrom}
 use Rattle.smf.specs.Place.{numberAt}
-use Rattle.smf.specs.Wire.{dataLength, readChannel, readBody}
+use Rattle.smf.specs.Wire.{Delta, dataLength, readChannel, readBody}
 use Rattle.smf.specs.Kind.{messageOne, messageTwo}
 use Rattle.smf.specs.Event.{placed, nameRaw, eventAt}
 use Rattle.smf.specs.Lists.{Reader, full, takes, stops, stepOn, nextAt}
 use Rattle.smf.proofs.Answer.{by-test, by-lt}
+use Rattle.smf.proofs.Number.{encode-one}
 use Rattle.smf.proofs.Place.{Sited, site-begun, site-next, number-placed}
 use Rattle.smf.proofs.Reading.{messageWith, one-or-two, data-one, data-two, body-status, body-running, status-channel, running-channel, event-body}
 use Rattle.smf.proofs.Steps.{event-within}
@@ -66,9 +67,15 @@ module _ (s : List ℕ) (at running : ℕ) (valid : isRunning running ≡ true) 
       let own : 0 * 128 + getD s at 0 % 128 ≡ getD s at 0 = omega arith in
       rw (drop-cons s at 0 (omega arith), lt-ltb (getD s at 0) 128 small, own, add-one at)
 
-  body : (rules : Rules) → (placed s at (nameRaw rules (readBody rules running (getD s at 0) (drop (at + 1) s))) ≡ eventAt rules running s at) × Sited s at (at + 1)
+  -- it has no padding
+  abbrev delta : Delta
+  delta = record { value = getD s at 0; padding = 0 }
+
+  body : (rules : Rules) → (placed s at (nameRaw rules (readBody rules running delta (drop (at + 1) s))) ≡ eventAt rules running s at) × Sited s at (at + 1)
   body rules =
-      event-body rules running s at valid (number-placed rules s at (delta-read rules) (site-next s at at (omega arith) (site-begun s at)))
+      let b = event-body rules running s at valid (number-placed rules s at (delta-read rules) (site-next s at at (omega arith) (site-begun s at))) in
+      let none : at + 1 - at - length (encodeNumber (getD s at 0)) ≡ 0 = omega (arith, encode-one (getD s at 0) small) in
+      (rw none at (b .0), b .1)
 
   module _ {used st a b : ℕ} where
     -- with a status byte of its own
@@ -80,7 +87,6 @@ module _ (s : List ℕ) (at running : ℕ) (valid : isRunning running ≡ true) 
           channel = (omega (arith, d .same), omega (arith, d .same));
           single = d .single;
           read = λ rules.
-              let delta = getD s at 0 in
               let site : Sited s at (at + 2) = rw two at (site-next s at (at + 1) (omega arith) (body rules .1)) in
               d .read rules delta site
               ∙ rw (d .same, ← two, ← status-channel rules running delta (getD s (at + 1) 0) (drop (at + 1 + 1) s) g, ← body-status rules running delta s (at + 1) (omega arith) h) (body rules .0);
@@ -95,7 +101,6 @@ module _ (s : List ℕ) (at running : ℕ) (valid : isRunning running ≡ true) 
           channel = (omega (arith, d .same, bounds .0), omega (arith, d .same, bounds .1));
           single = d .single;
           read = λ rules.
-              let delta = getD s at 0 in
               d .read rules delta (body rules .1) ∙ rw (d .same, ← body-running rules running delta s (at + 1) (omega arith) h z) (body rules .0);
         }
 
@@ -141,6 +146,6 @@ module _ (rules : Rules) (cap : ℕ) {s : List ℕ} {place running used status a
   unfolding nextAt
   short-full h = rw (lt-leb (length s) place (found .there), le-leb cap count h)
 
-  pub short-next : count < cap → nextAt rules cap s here ≡ takes (shortEvent (getD s place 0) status a b) (record { place = place + used; running = status; count = count + 1 })
+  pub short-next : count < cap → nextAt rules cap s here ≡ takes (shortEvent (getD s place 0) status a b) 0 (record { place = place + used; running = status; count = count + 1 })
   unfolding nextAt stepOn
   short-next h = rw (lt-leb (length s) place (found .there), lt-leb cap count h, ← found .read rules)

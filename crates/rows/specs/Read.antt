@@ -15,16 +15,17 @@ use Rattle.rows.specs.declared.lists.ReadRows.the-variants as read
 use Rattle.rows.specs.declared.lists.Laid.{Laid}
 use Rattle.rows.specs.declared.lists.Laid.the-variants as laid
 
--- of a list that was read: how many its events are, why reading stopped, the place of the next unread byte and the running status there
+-- of a list that was read: how many its events are, why reading stopped, the place of the next unread byte, the running status there and the padding
 pub record SheetAt : Type 0 where
   pub count : ℕ
   pub stop : smf.Stop
   pub place : ℕ
   pub running : ℕ
+  pub padding : ℕ
 
 -- what is told of a list beside its rows
 abbrev pub sheetAt : smf.ListAt → SheetAt
-sheetAt l = record { count = length (l .events); stop = l .stop; place = l .place; running = l .running }
+sheetAt l = record { count = length (l .events); stop = l .stop; place = l .place; running = l .running; padding = l .padding }
 
 -- what is left in the cells, and the answer
 pub record SheetRead : Type 0 where
@@ -41,7 +42,7 @@ readSheet l cells = sheetRead l (put (sheetOf (l .events)) cells 0)
 
 -- what the code answers
 abbrev pub rowsRead : RowsRead → SheetAt
-rowsRead r = record { count = r .count; stop = stopOf (r .stop); place = r .place; running = r .running .status }
+rowsRead r = record { count = r .count; stop = stopOf (r .stop); place = r .place; running = r .running .status; padding = r .padding }
 
 -- what each case of the answer says
 abbrev pub sheetAnswered : ReadRows → Answer SheetAt
@@ -54,9 +55,9 @@ rowsLeft r cells = record { cells = cells; answer = sheetAnswered r }
 
 -- One step of it
 
--- where the reader goes on, or why it stops
+-- the padding of the event that was laid and where the reader goes on, or why it stops
 pub data Onward : Type 0 where
-  goes : smf.Reader → Onward
+  goes : (padding : ℕ) → smf.Reader → Onward
   halts : smf.Stop → Onward
 
 -- that, and what the cells hold
@@ -66,10 +67,10 @@ pub record LaidStep : Type 0 where
 
 -- by the step that a list takes: the row of its event is laid behind so many others
 abbrev pub laidNext : smf.Next → ℕ → List ℕ → LaidStep
-laidNext (smf.takes e r) n cells = record { onward = goes r; cells = over (eventRow e) cells (n * width) }
+laidNext (smf.takes e padding r) n cells = record { onward = goes padding r; cells = over (eventRow e) cells (n * width) }
 laidNext (smf.stops why) n cells = record { onward = halts why; cells = cells }
 
 -- what the code answers, with what the cells hold at the end
 abbrev pub laidOf : Laid → List ℕ → LaidStep
-laidOf (laid.On cursor) cells = record { onward = goes (readerOf cursor); cells = cells }
+laidOf (laid.On on) cells = record { onward = goes (on .padding) (readerOf (on .cursor)); cells = cells }
 laidOf (laid.Stop why) cells = record { onward = halts (stopOf why); cells = cells }

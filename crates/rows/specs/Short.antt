@@ -6,7 +6,7 @@ use Prim.Native.Nat.{ℕ, _/_, _%_, _≤_, _<_}
 use lib.ListN.{length, drop, getD}
 use Rattle.smf.specs.Answer.{Rules}
 use Rattle.smf.specs.Place.{Span}
-use Rattle.smf.specs.Wire.{readChannel}
+use Rattle.smf.specs.Wire.{Delta, readChannel}
 use Rattle.smf.specs.Kind.{midi}
 use Rattle.smf.specs.Event.{Event, event, placed, nameRaw, eventAt}
 use Rattle.smf.proofs.Place.{Sited}
@@ -20,8 +20,8 @@ shortEvent delta status a b = event delta (midi (status % 16) (messageWith statu
 pub record DataRead (s : List ℕ) (at place status used st a b : ℕ) : Type 0 where
   pub same : st ≡ status
   pub single : st / 32 ≡ 6 → b ≡ 0
-  pub read : (rules : Rules) (delta : ℕ) → Sited s at place
-      → told (shortEvent delta st a b) used st ≡ placed s at (nameRaw rules (readChannel st delta (drop place s)))
+  pub read : (rules : Rules) (delta : Delta) → Sited s at place
+      → told (shortEvent (delta .value) st a b) used st (delta .padding) ≡ placed s at (nameRaw rules (readChannel st delta (drop place s)))
 
 -- where any was found
 abbrev pub ShortData : List ℕ → ℕ → ℕ → ℕ → ℕ → ℕ → ℕ → ℕ → Type 0
@@ -32,7 +32,7 @@ pub record ShortRead (s : List ℕ) (at running used status a b : ℕ) : Type 0 
   pub there : at < length s
   pub channel : (0x80 ≤ status) × (status < 0xF0)
   pub single : status / 32 ≡ 6 → b ≡ 0
-  pub read : (rules : Rules) → told (shortEvent (getD s at 0) status a b) used status ≡ eventAt rules running s at
+  pub read : (rules : Rules) → told (shortEvent (getD s at 0) status a b) used status 0 ≡ eventAt rules running s at
 
 -- where one was found
 abbrev pub ShortAt : List ℕ → ℕ → ℕ → ℕ → ℕ → ℕ → ℕ → Type 0

@@ -26,12 +26,14 @@ use track::list::CAPACITY;
 // How many cells the rows of a full list take.
 const CELLS: usize = CAPACITY * WIDTH;
 
-// How many events were read and why reading stopped; the place of the next unread byte, and the running status there.
+// How many events were read and why reading stopped; the place of the next unread byte, and the running status there;
+// the padding of the events, in all.
 pub struct RowsRead {
     pub count: usize,
     pub stop: Stop,
     pub place: usize,
     pub running: Running,
+    pub padding: usize,
 }
 
 // What reading a list into rows answers.
@@ -42,10 +44,16 @@ pub enum ReadRows {
     Refused(Refusal),
 }
 
+// A row that was laid: where the reader is behind its event, and the event's padding.
+pub struct RowLaid {
+    pub cursor: Cursor,
+    pub padding: usize,
+}
+
 // What laying the row of the next event answers.
 pub enum Laid {
-    // it was laid, and where the reader is behind its event
-    On(Cursor),
+    // it was laid
+    On(RowLaid),
     // there is no next event, and why; the cells stay as they are
     Stop(Stop),
 }
@@ -86,7 +94,10 @@ fn lay_any(raw: &[u8], cursor: Cursor, rules: Rules, rows: &mut [u64]) -> Laid
             let kind = event.kind;
             let behind = step.cursor;
             put_row(rows, cursor.count * WIDTH, event_row(event.delta.0, kind));
-            Laid::On(behind)
+            Laid::On(RowLaid {
+                cursor: behind,
+                padding: step.padding,
+            })
         }
     }
 }
@@ -114,10 +125,14 @@ fn lay_next(raw: &[u8], cursor: Cursor, rules: Rules, rows: &mut [u64]) -> Laid
         count * WIDTH,
         short_row(raw[place], status, short.a, short.b),
     );
-    Laid::On(Cursor {
+    let behind = Cursor {
         running: Running { status },
         place: place + used,
         count: count + 1,
+    };
+    Laid::On(RowLaid {
+        cursor: behind,
+        padding: 0,
     })
 }
 
@@ -132,6 +147,7 @@ fn lay_rows(raw: &[u8], at: usize, running: Running, rules: Rules, rows: &mut [u
         place: at,
         count: 0,
     };
+    let mut padding: usize = 0;
     let mut stop = Stop::Refused(Refusal::RunningStatus);
     if running.is_valid() {
         stop = loop {
@@ -140,7 +156,8 @@ fn lay_rows(raw: &[u8], at: usize, running: Running, rules: Rules, rows: &mut [u
                     break why;
                 }
                 Laid::On(next) => {
-                    cursor = next;
+                    padding += next.padding;
+                    cursor = next.cursor;
                 }
             }
         };
@@ -151,6 +168,7 @@ fn lay_rows(raw: &[u8], at: usize, running: Running, rules: Rules, rows: &mut [u
         stop,
         place: cursor.place,
         running: after,
+        padding,
     }
 }
 

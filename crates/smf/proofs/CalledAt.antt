@@ -10,7 +10,7 @@ use lib.ListN.{length, take, drop, getD, length-drop}
 use lib.Seq.{length-take-le, getD-take, getD-drop}
 use borrow.Author.Tests.{lt-ltb, le-ltb, le-leb, lt-leb, ne-eqb}
 use Rattle.smf.specs.Answer.{pick, Answer, gives, refuses, andThen, Rules}
-use Rattle.smf.specs.Place.{Span, bytesOf}
+use Rattle.smf.specs.Place.{Span, PayloadAt, bytesOf}
 use Rattle.smf.specs.Signed.{signedByte}
 use Rattle.smf.specs.Smpte.{Time, timeOf}
 use Rattle.smf.specs.Header.{word}
@@ -88,7 +88,10 @@ module _ (rules : Rules) (limit b : ℕ) where
   narrow-lenient h t = rw (le-ltb b limit h, t)
 
 -- of bytes that are bytes, and a range inside them
-module _ (rules : Rules) (s : List ℕ) (small : (i : ℕ) → getD s i 0 < 256) (span : Span) (inside : span .start + span .length ≤ length s) where
+module _ (rules : Rules) (s : List ℕ) (small : (i : ℕ) → getD s i 0 < 256) (load : PayloadAt) (inside : load .span .start + load .span .length ≤ length s) where
+  abbrev span : Span
+  span = load .span
+
   pub part-length : length (bytesOf s span) ≡ span .length
   unfolding bytesOf
   part-length = length-take-le (span .length) (drop (span .start) s) (omega (arith, length-drop (span .start) s))
@@ -102,29 +105,29 @@ module _ (rules : Rules) (s : List ℕ) (small : (i : ℕ) → getD s i 0 < 256)
 
   -- a message of that payload
   abbrev pub told : Meta Span → Answer MetaAt
-  told m = gives (record { message = m; next = span .start + span .length })
+  told m = gives (record { message = m; next = span .start + span .length; padding = load .padding })
 
-  pub called-is : (t : ℕ) (m : Meta (List ℕ)) → calledMeta rules t (bytesOf s span) ≡ gives m → told (mapMeta (λ q. span) m) ≡ calledAt rules s t span
+  pub called-is : (t : ℕ) (m : Meta (List ℕ)) → calledMeta rules t (bytesOf s span) ≡ gives m → told (mapMeta (λ q. span) m) ≡ calledAt rules s t load
   unfolding calledAt
   called-is t m e = rw e
 
-  pub called-text : (t : ℕ) → 1 ≤ t → t ≤ 9 → told (text t span) ≡ calledAt rules s t span
+  pub called-text : (t : ℕ) → 1 ≤ t → t ≤ 9 → told (text t span) ≡ calledAt rules s t load
   unfolding mapMeta
   called-text t h g = called-is t (text t (bytesOf s span)) (form-text rules (bytesOf s span) t h g)
 
   -- a type that is named from n bytes up
   module _ (t n : ℕ) (kind : Answer (Meta (List ℕ))) (form : calledMeta rules t (bytesOf s span) ≡ from n t (bytesOf s span) kind) where
-    pub short : span .length < n → told (unknown t span) ≡ calledAt rules s t span
+    pub short : span .length < n → told (unknown t span) ≡ calledAt rules s t load
     unfolding mapMeta
     short h = called-is t (unknown t (bytesOf s span)) (form ∙ rw (part-length, lt-leb n (span .length) h))
 
     long : n ≤ span .length → calledMeta rules t (bytesOf s span) ≡ kind
     long h = form ∙ rw (part-length, le-leb n (span .length) h)
 
-    pub enough : n ≤ span .length → (m : Meta (List ℕ)) → kind ≡ gives m → told (mapMeta (λ q. span) m) ≡ calledAt rules s t span
+    pub enough : n ≤ span .length → (m : Meta (List ℕ)) → kind ≡ gives m → told (mapMeta (λ q. span) m) ≡ calledAt rules s t load
     enough h m e = called-is t m (long h ∙ e)
 
-    pub enough-refused : n ≤ span .length → (k : ℕ) → kind ≡ refuses k → refuses k ≡ calledAt rules s t span
+    pub enough-refused : n ≤ span .length → (k : ℕ) → kind ≡ refuses k → refuses k ≡ calledAt rules s t load
     unfolding calledAt
     enough-refused h k e = rw (long h, e)
 
@@ -135,13 +138,13 @@ module _ (rules : Rules) (s : List ℕ) (small : (i : ℕ) → getD s i 0 < 256)
     first : byte (bytesOf s span) 0 ≡ getD s (span .start) 0
     first = part-first (omega arith)
 
-    pub fits-low : getD s (span .start) 0 < limit → told (mapMeta (λ q. span) (of (getD s (span .start) 0))) ≡ calledAt rules s t span
+    pub fits-low : getD s (span .start) 0 < limit → told (mapMeta (λ q. span) (of (getD s (span .start) 0))) ≡ calledAt rules s t load
     fits-low h = enough t 1 _ form some (of (getD s (span .start) 0)) (rw (first, narrow-low rules limit (getD s (span .start) 0) h))
 
-    pub fits-lenient : limit ≤ getD s (span .start) 0 → rules .strict ≡ false → told (mapMeta (λ q. span) (of (getD s (span .start) 0 % limit))) ≡ calledAt rules s t span
+    pub fits-lenient : limit ≤ getD s (span .start) 0 → rules .strict ≡ false → told (mapMeta (λ q. span) (of (getD s (span .start) 0 % limit))) ≡ calledAt rules s t load
     fits-lenient h l = enough t 1 _ form some (of (getD s (span .start) 0 % limit)) (rw (first, narrow-lenient rules limit (getD s (span .start) 0) h l))
 
-    pub fits-strict : limit ≤ getD s (span .start) 0 → rules .strict ≡ true → refuses 12 ≡ calledAt rules s t span
+    pub fits-strict : limit ≤ getD s (span .start) 0 → rules .strict ≡ true → refuses 12 ≡ calledAt rules s t load
     fits-strict h l = enough-refused t 1 _ form some 12 (rw (first, narrow-strict rules limit (getD s (span .start) 0) h l))
 
   -- the kinds that look at several bytes
@@ -157,25 +160,25 @@ module _ (rules : Rules) (s : List ℕ) (small : (i : ℕ) → getD s i 0 < 256)
   unfolding mapMeta trackNumberOf
   called-no-number h = rw (part-length, lt-leb 2 (span .length) h)
 
-  pub called-tempo : 3 ≤ span .length → told (tempo (getD s (span .start) 0 * 65536 + word (at 1) (at 2))) ≡ calledAt rules s 0x51 span
+  pub called-tempo : 3 ≤ span .length → told (tempo (getD s (span .start) 0 * 65536 + word (at 1) (at 2))) ≡ calledAt rules s 0x51 load
   unfolding mapMeta
   called-tempo h =
       ap (λ (v : ℕ). told (tempo v)) (omega (arith, part-first (omega arith), part-byte 1 (omega arith), part-byte 2 (omega arith)))
       ∙ enough 0x51 3 (gives (tempoOf (bytesOf s span))) (form-tempo rules (bytesOf s span)) h (tempoOf (bytesOf s span)) refl
 
-  pub called-signature : 4 ≤ span .length → told (timeSignature (getD s (span .start) 0) (at 1) (at 2) (at 3)) ≡ calledAt rules s 0x58 span
+  pub called-signature : 4 ≤ span .length → told (timeSignature (getD s (span .start) 0) (at 1) (at 2) (at 3)) ≡ calledAt rules s 0x58 load
   unfolding mapMeta
   called-signature h =
       rw (← part-first (omega arith), ← part-byte 1 (omega arith), ← part-byte 2 (omega arith), ← part-byte 3 (omega arith))
       (enough 0x58 4 (gives (signatureOf (bytesOf s span))) (form-signature rules (bytesOf s span)) h (signatureOf (bytesOf s span)) refl)
 
-  pub called-key : 2 ≤ span .length → told (keySignature (signedByte (getD s (span .start) 0)) (not (eqb (at 1) 0))) ≡ calledAt rules s 0x59 span
+  pub called-key : 2 ≤ span .length → told (keySignature (signedByte (getD s (span .start) 0)) (not (eqb (at 1) 0))) ≡ calledAt rules s 0x59 load
   unfolding mapMeta
   called-key h =
       rw (← part-first (omega arith), ← part-byte 1 (omega arith))
       (called-is 0x59 (keyOf (bytesOf s span)) (form-key rules (bytesOf s span) ∙ rw (part-length, le-leb 2 (span .length) h)))
 
-  pub called-short-key : span .length < 2 → refuses 14 ≡ calledAt rules s 0x59 span
+  pub called-short-key : span .length < 2 → refuses 14 ≡ calledAt rules s 0x59 load
   unfolding calledAt
   called-short-key h = rw (form-key rules (bytesOf s span), part-length, lt-leb 2 (span .length) h)
 
@@ -184,9 +187,9 @@ module _ (rules : Rules) (s : List ℕ) (small : (i : ℕ) → getD s i 0 < 256)
     answered : timeIn rules (bytesOf s span) ≡ a
     answered = rw (part-first (omega arith), part-byte 1 (omega arith), part-byte 2 (omega arith), part-byte 3 (omega arith), part-byte 4 (omega arith)) (sym e)
 
-    pub called-time : {t : Time} → a ≡ gives t → told (smpteOffset t) ≡ calledAt rules s 0x54 span
+    pub called-time : {t : Time} → a ≡ gives t → told (smpteOffset t) ≡ calledAt rules s 0x54 load
     unfolding mapMeta
     called-time {t} q = enough 0x54 5 _ (form-smpte rules (bytesOf s span)) h (smpteOffset t) (rw (answered, q))
 
-    pub called-no-time : {n : ℕ} → a ≡ refuses n → refuses n ≡ calledAt rules s 0x54 span
+    pub called-no-time : {n : ℕ} → a ≡ refuses n → refuses n ≡ calledAt rules s 0x54 load
     called-no-time {n} q = enough-refused 0x54 5 _ (form-smpte rules (bytesOf s span)) h n (rw (answered, q))

@@ -48,7 +48,7 @@ legal-is rules e h =
 
 -- an event written is read back, in both modes, whatever follows
 pub event-reads-back : (rules : Rules) (running : ℕ) (e : Event (List ℕ)) (rest : List ℕ) → isRunning running ≡ true → isLegal rules e ≡ true
-    → readEvent rules running (encodeEvent running e ++ rest) ≡ reads (taken e rest (runningAfter (rawOf (e .kind))))
+    → readEvent rules running (encodeEvent running e ++ rest) ≡ reads (taken e rest (runningAfter (rawOf (e .kind))) 0)
 unfolding readEvent nameRaw named encodeEvent
 event-reads-back rules running e rest is h =
     let l = is-legal rules e h in
@@ -63,7 +63,7 @@ prefix-free rules running e e′ s is h h′ q =
     let c : readEvent rules running (encodeEvent running e ++ []) ≡ readEvent rules running (encodeEvent running e′ ++ s) =
     ap (readEvent rules running) (append-nil (encodeEvent running e) ∙ q)
     in
-    let d : taken e [] (runningAfter (rawOf (e .kind))) ≡ taken e′ s (runningAfter (rawOf (e′ .kind))) = cc in
+    let d : taken e [] (runningAfter (rawOf (e .kind))) 0 ≡ taken e′ s (runningAfter (rawOf (e′ .kind))) 0 = cc in
     ap (λ (t : Taken (Event (List ℕ))). t .value) d
 
 -- What is read
@@ -81,6 +81,8 @@ pub record EventRead (rules : Rules) (running : ℕ) (s : List ℕ) (t : Taken (
   -- read strictly, it took no fewer bytes than are written for it; leniently, at most one fewer, and that only at the end of the bytes
   pub shortest : rules .strict ≡ true → length (encodeEvent running (t .value)) + length (t .rest) ≤ length s
   pub fewest : (length (encodeEvent running (t .value)) + length (t .rest) ≤ length s) ⊎ ((t .rest ≡ []) × (length (encodeEvent running (t .value)) ≤ length s + 1))
+  -- and its padding is among the bytes used
+  pub padded : t .padding + length (t .rest) ≤ length s
 
 abbrev ReadGood : Rules → ℕ → List ℕ → Reading (Taken (Event (List ℕ))) → Type 0
 ReadGood rules running s (reads t) = EventRead rules running s t
@@ -111,6 +113,7 @@ module _ (rules : Rules) (running : ℕ) (s : List ℕ) where
         ends = ends;
         shortest = λ strict. omega (arith, r .shortest strict);
         fewest = ⊎-elim (λ f. inl (omega arith)) (λ f. inr (f .0, omega (arith, f .1))) (r .fewest);
+        padded = r .padded;
       }
 
   raw-named-read : (a : Reading (Taken RawEvent)) → RawRead rules running s a → ReadGood rules running s (nameRaw rules a)
@@ -182,19 +185,20 @@ module _ (rules : Rules) (running : ℕ) (s : List ℕ) (at : ℕ) (t : Taken (E
 -- what is known of an event that was read at a place: its record is, over the bytes lent, the event that they hold there,
 -- and what is left begins as many bytes on as were used, some, and within the bytes
 pub record Reached (rules : Rules) (running : ℕ) (s : List ℕ) (at : ℕ) (a : EventAt) : Type 0 where
-  pub read : readEvent rules running (drop at s) ≡ reads (taken (mapEvent (bytesOf s) (a .event)) (drop (at + a .used) s) (a .running))
+  pub read : readEvent rules running (drop at s) ≡ reads (taken (mapEvent (bytesOf s) (a .event)) (drop (at + a .used) s) (a .running) (a .padding))
   pub some : 0 < a .used
   pub within : at + a .used ≤ length s
+  pub padded : a .padding ≤ a .used
 
 abbrev pub EventReached : Rules → ℕ → List ℕ → ℕ → ReadAt → Type 0
 EventReached rules running s at (readsAt a) = Reached rules running s at a
-EventReached rules running s at (refusedAt n used after) = (readEvent rules running (drop at s) ≡ refused n after) × (used ≡ 0)
+EventReached rules running s at (refusedAt n used after padding) = (readEvent rules running (drop at s) ≡ refused n after) × (used ≡ 0) × (padding ≡ 0)
 
 pub event-reached : (rules : Rules) (running : ℕ) (s : List ℕ) (at : ℕ) → EventReached rules running s at (eventAt rules running s at)
 unfolding eventAt placed
 event-reached rules running s at = by (readEvent rules running (drop at s)) refl where
   by : (a : Reading (Taken (Event (List ℕ)))) → readEvent rules running (drop at s) ≡ a → EventReached rules running s at (placed s at a)
-  by (refused n after) e = (e, refl)
+  by (refused n after) e = (e, refl, refl)
   by (reads t) e =
       let past = event-read rules running (drop at s) t e .past in
       let tail : t .rest ≡ drop (at + (length (drop at s) - length (t .rest))) s = read-tail rules running (drop at s) t e ∙ drop-drop (length (drop at s) - length (t .rest)) at s in
@@ -202,6 +206,7 @@ event-reached rules running s at = by (readEvent rules running (drop at s)) refl
         read = e ∙ rw (placed-itself rules running s at t e, ← tail) refl;
         some = omega arith;
         within = omega (arith, length-drop at s);
+        padded = omega (arith, event-read rules running (drop at s) t e .padded);
       }
 
 -- What strict reading accepts, lenient reads alike
@@ -224,7 +229,7 @@ module _ (rules : Rules) (running : ℕ) (s : List ℕ) where
 -- and so at a place
 abbrev pub AlikeAt : ReadAt → ReadAt → Type 0
 AlikeAt (readsAt a) b = b ≡ readsAt a
-AlikeAt (refusedAt n used after) b = Unit {0}
+AlikeAt (refusedAt n used after padding) b = Unit {0}
 
 placed-alike : (s : List ℕ) (at : ℕ) (a b : Reading (Taken (Event (List ℕ)))) → ReadsAlike a b → AlikeAt (placed s at a) (placed s at b)
 unfolding placed

@@ -11,7 +11,7 @@ use Rattle.smf.specs.Running.{isRunning}
 use Rattle.smf.specs.Place.{Span, placeOf, bytesOf}
 use Rattle.smf.specs.Wire.{Taken, Reading, reads, refused}
 use Rattle.smf.specs.Event.{Event, mapEvent, readEvent, EventAt, eventPlaced, ReadAt, readsAt, refusedAt, placed, eventAt}
-use Rattle.smf.specs.Lists.{Stop, ended, full, stopped, ListTaken, ListAt, listPlaced, readMore, readList, eventsOf, listAt}
+use Rattle.smf.specs.Lists.{Stop, ended, full, stopped, ListTaken, paddings, ListAt, listPlaced, readMore, readList, eventsOf, listAt}
 use Rattle.smf.proofs.Answer.{by-lt, pick-test}
 use Rattle.smf.proofs.Place.{Sited, site-begun}
 use Rattle.smf.proofs.Event.{event-read, read-tail, Reached, EventReached, event-reached}
@@ -19,11 +19,11 @@ use Rattle.smf.proofs.Lists.{more-none, more-left, more-read, more-not,
 
 -- a list that stops at a place with no event
 abbrev pub stopsThere : Stop → ℕ → ℕ → ListAt
-stopsThere stop place running = record { events = []; stop = stop; place = place; running = running }
+stopsThere stop place running = record { events = []; stop = stop; place = place; running = running; padding = 0 }
 
--- a record in front of those of a list
-abbrev pub inFront : Event Span → ListAt → ListAt
-inFront e l = record { events = e ∷ l .events; stop = l .stop; place = l .place; running = l .running }
+-- a record and its padding in front of those of a list
+abbrev pub inFront : Event Span → ℕ → ListAt → ListAt
+inFront e padding l = record { events = e ∷ l .events; stop = l .stop; place = l .place; running = l .running; padding = padding + l .padding }
 
 -- a place within the bytes is sited from every place before it
 pub sited : (s : List ℕ) (at p : ℕ) → at ≤ p → p ≤ length s → Sited s at p
@@ -37,7 +37,7 @@ module _ (rules : Rules) (most running : ℕ) (s : List ℕ) (at : ℕ) where
   list-begun h = rw h
 
   pub list-invalid : isRunning running ≡ false → listAt rules most running s at ≡ stopsThere (stopped 1) at running
-  unfolding listAt readList
+  unfolding listAt readList paddings
   list-invalid h = let q : placeOf s at (drop at s) ≡ at = omega arith in rw h (ap (λ (x : ℕ). stopsThere (stopped 1) x running) q)
 
 -- and goes on from a place p that was reached from there
@@ -48,6 +48,7 @@ module _ (rules : Rules) (running : ℕ) (s : List ℕ) (at p : ℕ) (site : Sit
 
   -- no byte is left
   pub more-end : (n : ℕ) → length s ≤ p → listPlaced s at (readMore rules n running (drop p s)) ≡ stopsThere ended p running
+  unfolding paddings
   more-end n h =
       let d : drop p s ≡ [] = drop-of-length-le s h in
       let q : placeOf s at [] ≡ p = ap (placeOf s at) (sym d) ∙ site in
@@ -55,17 +56,20 @@ module _ (rules : Rules) (running : ℕ) (s : List ℕ) (at p : ℕ) (site : Sit
 
   -- bytes are left, and no more events may be read
   pub more-full : p < length s → listPlaced s at (readMore rules 0 running (drop p s)) ≡ stopsThere full p running
+  unfolding paddings
   more-full h = rw (more-left rules running (drop p s) (some h)) (ap (λ (x : ℕ). stopsThere full x running) site)
 
   -- the event there is refused
-  pub more-refused : (n : ℕ) {m used after : ℕ} → p < length s → eventAt rules running s p ≡ refusedAt m used after
+  pub more-refused : (n : ℕ) {m used after padding : ℕ} → p < length s → eventAt rules running s p ≡ refusedAt m used after padding
       → listPlaced s at (readMore rules (suc n) running (drop p s)) ≡ stopsThere (stopped m) p running
+  unfolding paddings
   more-refused n {m} {used} {after} h e =
       let r : readEvent rules running (drop p s) ≡ refused m after = subst (EventReached rules running s p) e (event-reached rules running s p) .0 in
       rw (more-not rules running n (drop p s) m after (some h) r) (ap (λ (x : ℕ). stopsThere (stopped m) x running) site)
 
   taken-step : (n : ℕ) (t : Taken (Event (List ℕ))) → p < length s → readEvent rules running (drop p s) ≡ reads t → (a : EventAt) → eventPlaced s p t ≡ a
-      → listPlaced s at (readMore rules (suc n) running (drop p s)) ≡ inFront (a .event) (listPlaced s at (readMore rules n (a .running) (drop (p + a .used) s)))
+      → listPlaced s at (readMore rules (suc n) running (drop p s)) ≡ inFront (a .event) (a .padding) (listPlaced s at (readMore rules n (a .running) (drop (p + a .used) s)))
+  unfolding paddings
   taken-step n t h e a q =
       let past = event-read rules running (drop p s) t e .past in
       let tail : drop (p + (length (drop p s) - length (t .rest))) s ≡ t .rest =
@@ -76,19 +80,19 @@ module _ (rules : Rules) (running : ℕ) (s : List ℕ) (at p : ℕ) (site : Sit
 
   -- the event there is the next of the list
   pub more-step : (n : ℕ) {a : EventAt} → p < length s → eventAt rules running s p ≡ readsAt a
-      → listPlaced s at (readMore rules (suc n) running (drop p s)) ≡ inFront (a .event) (listPlaced s at (readMore rules n (a .running) (drop (p + a .used) s)))
+      → listPlaced s at (readMore rules (suc n) running (drop p s)) ≡ inFront (a .event) (a .padding) (listPlaced s at (readMore rules n (a .running) (drop (p + a .used) s)))
   unfolding eventAt placed
   more-step n {a} h e = by (readEvent rules running (drop p s)) refl e where
     by : (r : Reading (Taken (Event (List ℕ)))) → readEvent rules running (drop p s) ≡ r → placed s p r ≡ readsAt a
-        → listPlaced s at (readMore rules (suc n) running (drop p s)) ≡ inFront (a .event) (listPlaced s at (readMore rules n (a .running) (drop (p + a .used) s)))
+        → listPlaced s at (readMore rules (suc n) running (drop p s)) ≡ inFront (a .event) (a .padding) (listPlaced s at (readMore rules n (a .running) (drop (p + a .used) s)))
     by (reads t) q f = taken-step n t h q a (cc)
     by (refused m after) q f = let z : _≡_ {A = ℕ} 0 1 = cc in absurd (omega arith)
 
-  -- and the place after it is reached from there too, within the bytes
-  pub more-next : {a : EventAt} → p < length s → eventAt rules running s p ≡ readsAt a → Sited s at (p + a .used) × (p + a .used ≤ length s) × (p < p + a .used)
+  -- and the place after it is reached from there too, within the bytes and behind as many as its padding
+  pub more-next : {a : EventAt} → p < length s → eventAt rules running s p ≡ readsAt a → Sited s at (p + a .used) × (p + a .used ≤ length s) × (p < p + a .used) × (p + a .padding ≤ p + a .used)
   more-next {a} h e =
       let r : Reached rules running s p a = subst (EventReached rules running s p) e (event-reached rules running s p) in
-      (omega (arith, r .within, length-drop at s, length-drop p s, length-drop (p + a .used) s), r .within, omega (arith, r .some))
+      (omega (arith, r .within, length-drop at s, length-drop p s, length-drop (p + a .used) s), r .within, omega (arith, r .some), omega (arith, r .padded))
 
 -- The records over the bytes lent are the events
 
@@ -99,7 +103,7 @@ module _ (rules : Rules) (s : List ℕ) (at : ℕ) where
   one-itself : (n running p : ℕ) → Sited s at p → p < length s
       → ((r q : ℕ) → Sited s at q → Themselves (readMore rules n r (drop q s)))
       → (a : ReadAt) → eventAt rules running s p ≡ a → Themselves (readMore rules (suc n) running (drop p s))
-  one-itself n running p site h others (refusedAt m used after) e =
+  one-itself n running p site h others (refusedAt m used after padding) e =
       let r : readEvent rules running (drop p s) ≡ refused m after = subst (EventReached rules running s p) e (event-reached rules running s p) .0 in
       rw (more-not rules running n (drop p s) m after (some rules running s at p site h) r)
   one-itself n running p site h others (readsAt a) e =

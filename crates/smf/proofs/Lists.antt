@@ -12,7 +12,7 @@ use Rattle.smf.specs.Answer.{Rules, leniently}
 use Rattle.smf.specs.Running.{isRunning}
 use Rattle.smf.specs.Wire.{Taken, taken, Reading, reads, refused, readRaw}
 use Rattle.smf.specs.Event.{Event, nameRaw, readEvent, encodeEvent, eventAfter}
-use Rattle.smf.specs.Lists.{Stop, ended, full, stopped, ListTaken, stopsAt, before, goOn, readMore, readList, eventsOf, encodeList, listAfter}
+use Rattle.smf.specs.Lists.{Stop, ended, full, stopped, ListTaken, stopsAt, before, goOn, readMore, readList, eventsOf, paddings, encodeList, listAfter}
 use Rattle.smf.proofs.Answer.{by-test, pick-test}
 use Rattle.smf.proofs.Wire.{ReadsAlike}
 use Rattle.smf.proofs.Legal.{isLegal, AllLegal}
@@ -48,31 +48,32 @@ module _ (rules : Rules) (running : ℕ) where
 
 -- Written lists are read back
 
--- all bytes are used, by these events, and the running status is the one after them
+-- all bytes are used, by these events, with no padding, and the running status is the one after them
 pub record ReadsBack (l : ListTaken) (running : ℕ) (es : List (Event (List ℕ))) : Type 0 where
   pub events : eventsOf l ≡ es
   pub stop : l .stop ≡ ended
   pub rest : l .rest ≡ []
   pub after : l .running ≡ listAfter running es
+  pub padding : paddings (l .events) ≡ 0
 
 module _ (rules : Rules) where
   none-back : (most running : ℕ) → ReadsBack (readMore rules most running []) running []
-  unfolding listAfter
-  none-back most running = rw (more-none rules running most) (record { events = refl; stop = refl; rest = refl; after = refl })
+  unfolding listAfter paddings
+  none-back most running = rw (more-none rules running most) (record { events = refl; stop = refl; rest = refl; after = refl; padding = refl })
 
   -- an event in front
   one-back : (most running : ℕ) (e : Event (List ℕ)) (es : List (Event (List ℕ))) → isRunning running ≡ true → isLegal rules e ≡ true
       → (isRunning (eventAfter e) ≡ true → ReadsBack (readMore rules most (eventAfter e) (encodeList (eventAfter e) es)) (eventAfter e) es)
       → ReadsBack (readMore rules (suc most) running (encodeList running (e ∷ es))) running (e ∷ es)
-  unfolding encodeList listAfter
+  unfolding encodeList listAfter paddings
   one-back most running e es is h others =
       let rest = encodeList (eventAfter e) es in
-      let t = taken e rest (eventAfter e) in
+      let t = taken e rest (eventAfter e) 0 in
       let back = event-reads-back rules running e rest is h in
       let read = event-read rules running (encodeEvent running e ++ rest) t back in
       let l = others (read .runs) in
       rw (more-read rules running most (encodeEvent running e ++ rest) t (omega (arith, read .past)) back)
-      (record { events = ap (λ (x : List (Event (List ℕ))). e ∷ x) (l .events); stop = l .stop; rest = l .rest; after = l .after })
+      (record { events = ap (λ (x : List (Event (List ℕ))). e ∷ x) (l .events); stop = l .stop; rest = l .rest; after = l .after; padding = omega (arith, l .padding) })
 
   more-back : (most running : ℕ) (es : List (Event (List ℕ))) → isRunning running ≡ true → AllLegal rules es → length es ≤ most
       → ReadsBack (readMore rules most running (encodeList running es)) running es

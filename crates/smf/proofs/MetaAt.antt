@@ -10,7 +10,7 @@ use lib.ListN.{length, take, drop, getD, length-drop, drop-of-length-le}
 use lib.Seq.{drop-drop, drop-cons, length-take-le}
 use Rattle.smf.specs.Answer.{pick, Answer, gives, refuses, andThen, Rules}
 use Rattle.smf.specs.Payload.{Payload, payload, readPayload}
-use Rattle.smf.specs.Place.{placeOf, Span, payloadPlaced, payloadAt, bytesOf}
+use Rattle.smf.specs.Place.{placeOf, Span, spanPlaced, PayloadAt, payloadPlaced, payloadAt, bytesOf}
 use Rattle.smf.specs.Kind.{Meta, midiChannel, midiPort, smpteOffset, byte, isText, trackNumberOf, narrow, timeIn, calledMeta}
 use Rattle.smf.specs.Event.{mapMeta, spanBefore}
 use Rattle.smf.specs.MetaAt.{MetaTaken, metaNamed, readMetaMessage, MetaAt, metaPlaced, metaAt}
@@ -18,24 +18,24 @@ use Rattle.smf.proofs.Answer.{pick-both, said-of, said-refused}
 use Rattle.smf.proofs.Payload.{Loaded, PayloadLoaded, payload-loaded}
 
 -- what a payload of the bytes lent is called under a type
-unfoldable pub calledAt : Rules → List ℕ → ℕ → Span → Answer MetaAt
-calledAt rules s t span =
-    andThen (calledMeta rules t (bytesOf s span))
-    (λ m. gives (record { message = mapMeta (λ p. span) m; next = span .start + span .length }))
+unfoldable pub calledAt : Rules → List ℕ → ℕ → PayloadAt → Answer MetaAt
+calledAt rules s t p =
+    andThen (calledMeta rules t (bytesOf s (p .span)))
+    (λ m. gives (record { message = mapMeta (λ q. p .span) m; next = p .span .start + p .span .length; padding = p .padding }))
 
 abbrev pub endOf : Span → ℕ
 endOf span = span .start + span .length
 
 -- what is known of a payload that was read at a place within the bytes
-pub record LoadedAt (rules : Rules) (s : List ℕ) (at : ℕ) (span : Span) : Type 0 where
-  pub read : readPayload rules (drop at s) ≡ gives (payload (bytesOf s span) (drop (endOf span) s))
-  pub long : length (bytesOf s span) ≡ span .length
-  pub inside : endOf span ≤ length s
-  pub past : at ≤ span .start
-  pub small : span .length < 2 ^ 28
+pub record LoadedAt (rules : Rules) (s : List ℕ) (at : ℕ) (p : PayloadAt) : Type 0 where
+  pub read : readPayload rules (drop at s) ≡ gives (payload (bytesOf s (p .span)) (drop (endOf (p .span)) s) (p .padding))
+  pub long : length (bytesOf s (p .span)) ≡ p .span .length
+  pub inside : endOf (p .span) ≤ length s
+  pub past : at + p .padding ≤ p .span .start
+  pub small : p .span .length < 2 ^ 28
 
-abbrev pub PayloadReached : Rules → List ℕ → ℕ → Answer Span → Type 0
-PayloadReached rules s at (gives span) = LoadedAt rules s at span
+abbrev pub PayloadReached : Rules → List ℕ → ℕ → Answer PayloadAt → Type 0
+PayloadReached rules s at (gives p) = LoadedAt rules s at p
 PayloadReached rules s at (refuses n) = readPayload rules (drop at s) ≡ refuses n
 
 pub payload-reached : (rules : Rules) (s : List ℕ) (at : ℕ) → at ≤ length s → PayloadReached rules s at (payloadAt rules s at)
@@ -45,17 +45,17 @@ payload-reached rules s at h = by (readPayload rules (drop at s)) refl (payload-
   loaded p e l =
       let d = length-drop at s in
       let w = l .within in
-      let q : at + (length (drop at s) - length (p .rest) - length (p .bytes)) ≡ payloadPlaced s at p .start = omega arith in
-      let r : at + (length (drop at s) - length (p .rest)) ≡ endOf (payloadPlaced s at p) = omega arith in
-      let b : p .bytes ≡ bytesOf s (payloadPlaced s at p) =
+      let q : at + (length (drop at s) - length (p .rest) - length (p .bytes)) ≡ spanPlaced s at p .start = omega arith in
+      let r : at + (length (drop at s) - length (p .rest)) ≡ endOf (spanPlaced s at p) = omega arith in
+      let b : p .bytes ≡ bytesOf s (spanPlaced s at p) =
       l .place ∙ ap (take (length (p .bytes))) (drop-drop _ at s ∙ ap (λ (n : ℕ). drop n s) q)
       in
-      let t : p .rest ≡ drop (endOf (payloadPlaced s at p)) s = l .tail ∙ drop-drop _ at s ∙ ap (λ (n : ℕ). drop n s) r in
+      let t : p .rest ≡ drop (endOf (spanPlaced s at p)) s = l .tail ∙ drop-drop _ at s ∙ ap (λ (n : ℕ). drop n s) r in
       record {
         read = e ∙ rw (← b, ← t);
         long = ap length (sym b);
         inside = omega arith;
-        past = omega arith;
+        past = omega (arith, l .padded);
         small = l .small;
       }
 
@@ -106,20 +106,21 @@ module _ (rules : Rules) (s : List ℕ) (at : ℕ) where
       rw (typed-at h, r)
 
   -- the place and the payload of what was called
-  called-placed : (span : Span) (p : List ℕ) → at ≤ span .start → endOf span ≤ length s → length p ≡ span .length
+  called-placed : (span : Span) (padding : ℕ) (p : List ℕ) → at ≤ span .start → endOf span ≤ length s → length p ≡ span .length
       → (a : Answer (Meta (List ℕ))) → Carries p a
-      → andThen (andThen a (λ m. gives (record { message = m; rest = drop (endOf span) s }))) (λ (t : MetaTaken). gives (metaPlaced s at t))
-      ≡ andThen a (λ m. gives (record { message = mapMeta (λ q. span) m; next = endOf span }))
-  called-placed span p h g len (refuses n) c = refl
-  called-placed span p h g len (gives m) c =
+      → andThen (andThen a (λ m. gives (record { message = m; rest = drop (endOf span) s; padding = padding }))) (λ (t : MetaTaken). gives (metaPlaced s at t))
+      ≡ andThen a (λ m. gives (record { message = mapMeta (λ q. span) m; next = endOf span; padding = padding }))
+  called-placed span padding p h g len (refuses n) c = refl
+  called-placed span padding p h g len (gives m) c =
       let e : placeOf s at (drop (endOf span) s) ≡ endOf span = omega (arith, length-drop at s, length-drop (endOf span) s) in
       let b : endOf span - span .length ≡ span .start = omega arith in
       let f : spanBefore (endOf span) p ≡ span = rw (len, b) in
       rw (e, c (spanBefore (endOf span)), f)
 
-  pub meta-called : at < length s → {span : Span} → payloadAt rules s (at + 1) ≡ gives span → metaAt rules s at ≡ calledAt rules s (getD s at 0) span
+  pub meta-called : at < length s → {p : PayloadAt} → payloadAt rules s (at + 1) ≡ gives p → metaAt rules s at ≡ calledAt rules s (getD s at 0) p
   unfolding metaAt calledAt
-  meta-called h {span} e =
-      let l : LoadedAt rules s (at + 1) span = said-of (PayloadReached rules s (at + 1)) (payload-reached rules s (at + 1) (omega arith)) e in
+  meta-called h {p} e =
+      let l : LoadedAt rules s (at + 1) p = said-of (PayloadReached rules s (at + 1)) (payload-reached rules s (at + 1) (omega arith)) e in
+      let bytes = bytesOf s (p .span) in
       rw (typed-at h, l .read)
-      (called-placed span (bytesOf s span) (omega (arith, l .past)) (l .inside) (l .long) (calledMeta rules (getD s at 0) (bytesOf s span)) (called-carries rules (getD s at 0) (bytesOf s span)))
+      (called-placed (p .span) (p .padding) bytes (omega (arith, l .past)) (l .inside) (l .long) (calledMeta rules (getD s at 0) bytes) (called-carries rules (getD s at 0) bytes))

@@ -11,7 +11,7 @@ use lib.Dec.{ltb, eqb}
 use lib.ListN.{length, take, drop, length-append, take-append-drop}
 use borrow.Author.Tests.{lt-ltb, le-ltb, ltb-true, ltb-false, eq-eqb, ne-eqb}
 use Rattle.smf.specs.Answer.{pick, Answer, gives, refuses, Rules, strictly, leniently}
-use Rattle.smf.specs.Number.{joined, noMore, isNumber, valueFrom, ahead, encodeNumber, Numeral, numeral, numberFrom, readNumber}
+use Rattle.smf.specs.Number.{joined, noMore, isNumber, valueFrom, ahead, encodeNumber, Numeral, numeral, numberFrom, readNumber, paddingOf}
 use Rattle.smf.proofs.Answer.{pick-test, said-of, Alike, pick-alike, strictly-alike}
 
 -- The groups ahead of the last
@@ -139,7 +139,7 @@ encode-value v f = ahead-value 3 (v / 128) ((v % 128) ∷ []) (omega arith) ∙ 
 
 -- Reading
 
-none-nil : (bs : List ℕ) → noMore bs ≡ true → bs ≡ []
+pub none-nil : (bs : List ℕ) → noMore bs ≡ true → bs ≡ []
 none-nil [] h = refl
 none-nil (b ∷ bs) h = let z : _≡_ {A = ℕ} 0 1 = cc in absurd (omega arith)
 
@@ -164,6 +164,10 @@ smf-read rules n rest h = number-read rules 4 0 n rest h
 -- a number written is read back, in both modes, whatever follows
 pub reads-back : (rules : Rules) (v : ℕ) (rest : List ℕ) → v < 2 ^ 28 → readNumber rules (encodeNumber v ++ rest) ≡ gives (numeral v rest)
 reads-back rules v rest f = smf-read rules (encodeNumber v) rest (encode-is-number v) ∙ ap (λ (n : ℕ). gives (numeral n rest)) (encode-value v f)
+
+-- and has no padding
+pub encode-unpadded : (v : ℕ) (rest : List ℕ) → paddingOf (encodeNumber v ++ rest) (numeral v rest) ≡ 0
+encode-unpadded v rest = omega (arith, length-append (encodeNumber v) rest)
 
 -- What is read, from s on, after j bytes whose bits are below 128 to the j, of at most k more
 pub record Walked (rules : Rules) (k j bits : ℕ) (s : List ℕ) (n : Numeral) : Type 0 where

@@ -10,20 +10,20 @@ use lib.ListN.{length, take, drop, length-append, length-drop, length-take}
 use lib.Seq.{take-append-seam, drop-append-seam, drop-drop, length-take-le, take-length, drop-length}
 use borrow.Author.Tests.{le-leb, leb-true, leb-false}
 use Rattle.smf.specs.Answer.{pick, Answer, gives, refuses, andThen, Rules, strictly, leniently}
-use Rattle.smf.specs.Number.{encodeNumber, Numeral, numeral, readNumber}
+use Rattle.smf.specs.Number.{encodeNumber, Numeral, numeral, readNumber, paddingOf}
 use Rattle.smf.specs.Payload.{Payload, payload, payloadAfter, readPayload, encodePayload}
 use Rattle.smf.proofs.Answer.{pick-test, said-of, Alike, pick-alike, strictly-alike, then-alike}
-use Rattle.smf.proofs.Number.{reads-back, Took, NumberTook, read-took, shortest, number-alike, encode-monotone}
+use Rattle.smf.proofs.Number.{reads-back, encode-unpadded, Took, NumberTook, read-took, shortest, number-alike, encode-monotone}
 
 pub encode-payload-length : (p : List ℕ) → length (encodePayload p) ≡ length (encodeNumber (length p)) + length p
 unfolding encodePayload
 encode-payload-length p = length-append (encodeNumber (length p)) p
 
--- a payload written is read back, in both modes, whatever follows
-pub payload-reads-back : (rules : Rules) (p rest : List ℕ) → length p < 2 ^ 28 → readPayload rules (encodePayload p ++ rest) ≡ gives (payload p rest)
+-- a payload written is read back, in both modes, whatever follows, and its number has no padding
+pub payload-reads-back : (rules : Rules) (p rest : List ℕ) → length p < 2 ^ 28 → readPayload rules (encodePayload p ++ rest) ≡ gives (payload p rest 0)
 unfolding readPayload encodePayload payloadAfter
 payload-reads-back rules p rest h =
-    simp (append-assoc, reads-back rules (length p) (p ++ rest) h, le-leb (length p) (length (p ++ rest)) (omega (arith, length-append p rest)), take-append-seam, drop-append-seam)
+    simp (append-assoc, reads-back rules (length p) (p ++ rest) h, encode-unpadded (length p) (p ++ rest), le-leb (length p) (length (p ++ rest)) (omega (arith, length-append p rest)), take-append-seam, drop-append-seam)
 
 -- What is read: below 2^28 bytes, which end where the reading ends; and its shortest form takes no more bytes, unless there are none
 pub record Loaded (rules : Rules) (s : List ℕ) (p : Payload) : Type 0 where
@@ -33,6 +33,7 @@ pub record Loaded (rules : Rules) (s : List ℕ) (p : Payload) : Type 0 where
   pub place : p .bytes ≡ take (length (p .bytes)) (drop (length s - length (p .rest) - length (p .bytes)) s)
   pub fewest : (s ≡ []) ⊎ (length (encodePayload (p .bytes)) + length (p .rest) ≤ length s)
   pub shortest : rules .strict ≡ true → length (encodePayload (p .bytes)) + length (p .rest) ≤ length s
+  pub padded : p .padding + length (p .bytes) + length (p .rest) ≤ length s
 
 abbrev pub PayloadLoaded : Rules → List ℕ → Answer Payload → Type 0
 PayloadLoaded rules s (gives p) = Loaded rules s p
@@ -43,7 +44,7 @@ module _ (rules : Rules) (s : List ℕ) (n : Numeral) (read : readNumber rules s
   took = said-of (NumberTook rules s) (read-took rules s) read
 
   -- whatever part of what follows the number is taken, no longer than the number says
-  loaded : (c : ℕ) → c ≤ n .value → c ≤ length (n .rest) → Loaded rules s (payload (take c (n .rest)) (drop c (n .rest)))
+  loaded : (c : ℕ) → c ≤ n .value → c ≤ length (n .rest) → Loaded rules s (payload (take c (n .rest)) (drop c (n .rest)) (paddingOf s n))
   loaded c h g =
       let t = took in
       let l : length (take c (n .rest)) ≡ c = length-take-le c (n .rest) g in
@@ -59,9 +60,10 @@ module _ (rules : Rules) (s : List ℕ) (n : Numeral) (read : readNumber rules s
         place = rw (l, d) (ap (take c) (t .tail ∙ ap (λ (x : ℕ). drop x s) start));
         fewest = ⊎-elim (λ z. inl z) (λ f. inr (omega arith)) (t .fewest);
         shortest = λ strict. omega (arith, shortest rules strict s n read);
+        padded = omega (arith, t .within);
       }
 
-  after-loaded : PayloadLoaded rules s (payloadAfter rules n)
+  after-loaded : PayloadLoaded rules s (payloadAfter rules s n)
   unfolding payloadAfter
   after-loaded =
       pick-test (PayloadLoaded rules s) (leb (n .value) (length (n .rest)))
@@ -72,7 +74,7 @@ module _ (rules : Rules) (s : List ℕ) (n : Numeral) (read : readNumber rules s
 pub payload-loaded : (rules : Rules) (s : List ℕ) → PayloadLoaded rules s (readPayload rules s)
 unfolding readPayload
 payload-loaded rules s = by (readNumber rules s) refl (read-took rules s) where
-  by : (a : Answer Numeral) → readNumber rules s ≡ a → NumberTook rules s a → PayloadLoaded rules s (andThen a (payloadAfter rules))
+  by : (a : Answer Numeral) → readNumber rules s ≡ a → NumberTook rules s a → PayloadLoaded rules s (andThen a (payloadAfter rules s))
   by (gives n) e t = after-loaded rules s n e
   by (refuses m) e t = t
 
@@ -84,10 +86,10 @@ lenient-loads rules lenient s = by (readPayload rules s) (payload-loaded rules s
   by (refuses m) g e = let z : _≡_ {A = ℕ} 0 1 = cc in absurd (omega arith)
 
 -- what strict reading accepts, lenient reads alike
-after-alike : (rules : Rules) (n : Numeral) → Alike (payloadAfter rules n) (payloadAfter (leniently rules) n)
+after-alike : (rules : Rules) (s : List ℕ) (n : Numeral) → Alike (payloadAfter rules s n) (payloadAfter (leniently rules) s n)
 unfolding payloadAfter
-after-alike rules n = pick-alike Alike (leb (n .value) (length (n .rest))) refl (strictly-alike rules 11 (payload (n .rest) []))
+after-alike rules s n = pick-alike Alike (leb (n .value) (length (n .rest))) refl (strictly-alike rules 11 (payload (n .rest) [] (paddingOf s n)))
 
 pub payload-alike : (rules : Rules) (s : List ℕ) → Alike (readPayload rules s) (readPayload (leniently rules) s)
 unfolding readPayload
-payload-alike rules s = then-alike (payloadAfter rules) (payloadAfter (leniently rules)) (readNumber rules s) (readNumber (leniently rules) s) (number-alike rules s) (after-alike rules)
+payload-alike rules s = then-alike (payloadAfter rules s) (payloadAfter (leniently rules) s) (readNumber rules s) (readNumber (leniently rules) s) (number-alike rules s) (after-alike rules s)

@@ -8,9 +8,9 @@ use lib.ListN.{length, take, drop, length-drop}
 use lib.Seq.{drop-drop, length-take-le}
 use borrow.Author.Tests.{le-leb, lt-leb}
 use Rattle.smf.specs.Answer.{Answer, gives, refuses, andThen, Rules, strictly}
-use Rattle.smf.specs.Number.{Numeral, numeral, readNumber}
+use Rattle.smf.specs.Number.{encodeNumber, Numeral, numeral, readNumber, paddingOf}
 use Rattle.smf.specs.Payload.{Payload, payload, payloadAfter, readPayload}
-use Rattle.smf.specs.Place.{placeOf, NumberAt, numberPlaced, numberAt, Span, payloadPlaced, payloadAt}
+use Rattle.smf.specs.Place.{placeOf, NumberAt, numberPlaced, numberAt, payloadAt}
 use Rattle.smf.proofs.Answer.{said-of}
 use Rattle.smf.proofs.Number.{Took, NumberTook, read-took}
 
@@ -32,9 +32,12 @@ site-bounds s at p e = omega arith
 
 module _ (rules : Rules) (s : List ℕ) (at : ℕ) where
   pub number-placed : {v p : ℕ} → readNumber rules (drop at s) ≡ gives (numeral v (drop p s)) → Sited s at p
-      → numberAt rules s at ≡ gives (record { value = v; next = p })
+      → numberAt rules s at ≡ gives (record { value = v; next = p; padding = p - at - length (encodeNumber v) })
   unfolding numberAt
-  number-placed {v} {p} e site = rw e (ap (λ (q : ℕ). gives (record { value = v; next = q })) site)
+  number-placed {v} {p} e site =
+      let used : length (drop at s) - length (drop p s) ≡ p - at = omega arith in
+      let there : at + (p - at) ≡ p = omega arith in
+      rw (e, used, there)
 
   pub number-refused : {n : ℕ} → readNumber rules (drop at s) ≡ refuses n → numberAt rules s at ≡ refuses n
   unfolding numberAt
@@ -46,6 +49,7 @@ pub record Reached (rules : Rules) (s : List ℕ) (at : ℕ) (n : NumberAt) : Ty
   pub site : Sited s at (n .next)
   pub small : n .value < 2 ^ 28
   pub most : n .next ≤ at + 4
+  pub padded : n .padding ≡ paddingOf (drop at s) (numeral (n .value) (drop (n .next) s))
 
 abbrev pub NumberReached : Rules → List ℕ → ℕ → Answer NumberAt → Type 0
 NumberReached rules s at (gives n) = Reached rules s at n
@@ -64,6 +68,7 @@ number-reached rules s at = by (readNumber rules (drop at s)) refl (read-took ru
         site = ap (placeOf s at) (sym r);
         small = t .small;
         most = omega (arith, t .most);
+        padded = ap (λ (l : List ℕ). paddingOf (drop at s) (numeral (n .value) l)) r;
       }
 
 -- what the reading of a payload says at a place, by the number that it begins with
@@ -78,7 +83,7 @@ module _ (rules : Rules) (s : List ℕ) (at : ℕ) (n : NumberAt) (e : numberAt 
   reached : Reached rules s at n
   reached = said-of (NumberReached rules s at) (number-reached rules s at) e
 
-  pub payload-whole : n .value ≤ length s - n .next → payloadAt rules s at ≡ gives (record { start = n .next; length = n .value })
+  pub payload-whole : n .value ≤ length s - n .next → payloadAt rules s at ≡ gives (record { span = record { start = n .next; length = n .value }; padding = n .padding })
   unfolding payloadAt readPayload payloadAfter
   payload-whole h =
       let r = reached in
@@ -87,20 +92,20 @@ module _ (rules : Rules) (s : List ℕ) (at : ℕ) (n : NumberAt) (e : numberAt 
       let p : placeOf s at (drop (n .value) (drop (n .next) s)) - n .value ≡ n .next =
       omega (arith, r .site, length-drop at s, length-drop (n .value) (drop (n .next) s))
       in
-      rw (r .read, le-leb (n .value) (length (drop (n .next) s)) (omega arith), l) (ap (λ (q : ℕ). gives (record { start = q; length = n .value })) p)
+      rw (r .read, le-leb (n .value) (length (drop (n .next) s)) (omega arith), l, ← r .padded) (ap (λ (q : ℕ). gives (record { span = record { start = q; length = n .value }; padding = n .padding })) p)
 
-  cut : length s - n .next < n .value → readPayload rules (drop at s) ≡ strictly rules 11 (payload (drop (n .next) s) [])
+  cut : length s - n .next < n .value → readPayload rules (drop at s) ≡ strictly rules 11 (payload (drop (n .next) s) [] (n .padding))
   unfolding readPayload payloadAfter
-  cut h = let d = length-drop (n .next) s in rw (reached .read, lt-leb (n .value) (length (drop (n .next) s)) (omega arith))
+  cut h = let d = length-drop (n .next) s in rw (reached .read, lt-leb (n .value) (length (drop (n .next) s)) (omega arith), ← reached .padded)
 
   pub payload-cut-strict : length s - n .next < n .value → rules .strict ≡ true → payloadAt rules s at ≡ refuses 11
   unfolding payloadAt
   payload-cut-strict h t = rw (cut h, t)
 
   pub payload-cut-lenient : length s - n .next < n .value → rules .strict ≡ false
-      → payloadAt rules s at ≡ gives (record { start = n .next; length = length s - n .next })
+      → payloadAt rules s at ≡ gives (record { span = record { start = n .next; length = length s - n .next }; padding = n .padding })
   unfolding payloadAt
   payload-cut-lenient h t =
       let r = reached in
       let p : placeOf s at [] - (length s - n .next) ≡ n .next = omega (arith, r .site, length-drop at s, length-drop (n .next) s) in
-      rw (cut h, t, length-drop (n .next) s) (ap (λ (q : ℕ). gives (record { start = q; length = length s - n .next })) p)
+      rw (cut h, t, length-drop (n .next) s) (ap (λ (q : ℕ). gives (record { span = record { start = q; length = length s - n .next }; padding = n .padding })) p)

@@ -13,9 +13,9 @@ use borrow.Author.Tests.{lt-ltb, le-ltb, ltb-true, ltb-false, ne-eqb}
 use Rattle.smf.specs.Answer.{pick, Answer, gives, refuses, andThen, Rules}
 use Rattle.smf.specs.Number.{Numeral, numeral, readNumber}
 use Rattle.smf.specs.Payload.{Payload, payload, readPayload}
-use Rattle.smf.specs.Place.{placeOf, NumberAt, numberAt, Span, payloadAt, bytesOf}
+use Rattle.smf.specs.Place.{placeOf, NumberAt, numberAt, Span, PayloadAt, payloadAt, bytesOf}
 use Rattle.smf.specs.Running.{isRunning}
-use Rattle.smf.specs.Wire.{RawEvent, rawEvent, Taken, taken, Reading, reads, refused, system, typed, dataLength, tableLength, readOne, readTwo, readChannel, withPayload, readMeta, readStatus, readBody, afterDelta, readRaw}
+use Rattle.smf.specs.Wire.{RawEvent, rawEvent, Taken, taken, Delta, Reading, reads, refused, system, typed, dataLength, tableLength, readOne, readTwo, readChannel, withPayload, readMeta, readStatus, readBody, afterDelta, readRaw}
 use Rattle.smf.specs.Kind.{Message, Meta, Kind, midi, sysEx, escape, meta, messageOne, messageTwo, calledMeta, called}
 use Rattle.smf.specs.Event.{Event, event, mapMeta, mapKind, mapEvent, named, nameRaw, spanBefore, eventPlaced, ReadAt, readsAt, refusedAt, placed, readEvent, eventAt}
 use Rattle.smf.specs.MetaAt.{MetaTaken, metaNamed, readMetaMessage, MetaAt, metaPlaced, metaAt}
@@ -24,9 +24,9 @@ use Rattle.smf.proofs.Payload.{Loaded, PayloadLoaded, payload-loaded}
 use Rattle.smf.proofs.Place.{Sited, site-next, Reached, NumberReached, number-reached}
 use Rattle.smf.proofs.MetaAt.{endOf, LoadedAt, PayloadReached, payload-reached}
 
--- an event read, with the bytes used and the running status after it
-abbrev pub told : Event Span → ℕ → ℕ → ReadAt
-told e used running = readsAt (record { event = e; used = used; running = running })
+-- an event read, with the bytes used, the running status after it, and its padding
+abbrev pub told : Event Span → ℕ → ℕ → ℕ → ReadAt
+told e used running padding = readsAt (record { event = e; used = used; running = running; padding = padding })
 
 -- Channel statuses
 
@@ -46,7 +46,7 @@ one-or-two st = by-test (eqb (st / 16) 0xC) (λ t. inl (rw t)) (λ t. by-test (e
 pub data-some : (st : ℕ) → 0 < dataLength st
 data-some st = ⊎-elim (λ n. omega arith) (λ n. omega arith) (one-or-two st)
 
-module _ (rules : Rules) (s : List ℕ) (start at st delta : ℕ) (site : Sited s start at) where
+module _ (rules : Rules) (s : List ℕ) (start at st : ℕ) (delta : Delta) (site : Sited s start at) where
   abbrev channelled : ReadAt
   channelled = placed s start (nameRaw rules (readChannel st delta (drop at s)))
 
@@ -62,7 +62,7 @@ module _ (rules : Rules) (s : List ℕ) (start at st delta : ℕ) (site : Sited 
   unfolding readChannel
   is-two n = rw n
 
-  pub data-short : length s - at < dataLength st → refusedAt 8 0 st ≡ channelled
+  pub data-short : length s - at < dataLength st → refusedAt 8 0 st 0 ≡ channelled
   unfolding placed nameRaw readOne readTwo
   data-short h =
       ⊎-elim (λ n. rw (is-one n, drop-of-length-le s {i = at} (omega arith)))
@@ -80,7 +80,7 @@ module _ (rules : Rules) (s : List ℕ) (start at st delta : ℕ) (site : Sited 
       let e : suc (at + 1) ≡ at + 2 = omega arith in
       rw (drop-cons s (at + 1) 0 (omega arith), e)
 
-  pub data-top : dataLength st ≤ length s - at → 0x80 ≤ getD s at 0 → refusedAt 9 0 st ≡ channelled
+  pub data-top : dataLength st ≤ length s - at → 0x80 ≤ getD s at 0 → refusedAt 9 0 st 0 ≡ channelled
   unfolding placed nameRaw readOne readTwo
   data-top h b =
       ⊎-elim (λ n. rw (is-one n, first (omega arith), le-ltb (getD s at 0) 0x80 b))
@@ -88,7 +88,7 @@ module _ (rules : Rules) (s : List ℕ) (start at st delta : ℕ) (site : Sited 
       (one-or-two st)
 
   pub data-one : (b : ℕ) → dataLength st ≤ length s - at → dataLength st ≡ 1 → getD s at 0 < 0x80
-      → told (event delta (midi (st % 16) (messageWith st (getD s at 0) b))) (at + 1 - start) st ≡ channelled
+      → told (event (delta .value) (midi (st % 16) (messageWith st (getD s at 0) b))) (at + 1 - start) st (delta .padding) ≡ channelled
   unfolding placed nameRaw readOne named called mapEvent mapKind messageWith
   data-one b h n a =
       rw (is-one n, first (omega arith), lt-ltb (getD s at 0) 0x80 a, used-to (at + 1) (site-next s start at (omega arith) site), n)
@@ -100,14 +100,14 @@ module _ (rules : Rules) (s : List ℕ) (start at st delta : ℕ) (site : Sited 
     pub data-more : at + 1 < length s
     data-more = omega (arith, two)
 
-    pub data-second-top : 0x80 ≤ getD s (at + 1) 0 → refusedAt 9 0 st ≡ channelled
+    pub data-second-top : 0x80 ≤ getD s (at + 1) 0 → refusedAt 9 0 st 0 ≡ channelled
     unfolding placed nameRaw readTwo
     data-second-top b =
         let m = data-more in
         rw (is-two two, first (omega arith), second (omega arith), lt-ltb (getD s at 0) 0x80 a, le-ltb (getD s (at + 1) 0) 0x80 b)
 
     pub data-two : getD s (at + 1) 0 < 0x80
-        → told (event delta (midi (st % 16) (messageWith st (getD s at 0) (getD s (at + 1) 0)))) (at + 2 - start) st ≡ channelled
+        → told (event (delta .value) (midi (st % 16) (messageWith st (getD s at 0) (getD s (at + 1) 0)))) (at + 2 - start) st (delta .padding) ≡ channelled
     unfolding placed nameRaw readTwo named called mapEvent mapKind messageWith
     data-two b =
         let m = data-more in
@@ -122,22 +122,29 @@ module _ (rules : Rules) (s : List ℕ) (start at st delta : ℕ) (site : Sited 
 site-shift : (s : List ℕ) (start at : ℕ) (rest : List ℕ) → Sited s start at → length rest ≤ length (drop at s) → placeOf s start rest ≡ placeOf s at rest
 site-shift s start at rest site h = omega (arith, length-drop at s, length-drop start s)
 
-module _ (rules : Rules) (s : List ℕ) (start at st delta : ℕ) (site : Sited s start at) (within : at ≤ length s) where
+module _ (rules : Rules) (s : List ℕ) (start at st : ℕ) (delta : Delta) (site : Sited s start at) (within : at ≤ length s) where
   abbrev loaded : ReadAt
   loaded = placed s start (nameRaw rules (withPayload delta (system st) (readPayload rules (drop at s))))
 
-  pub payload-refused : {n : ℕ} → payloadAt rules s at ≡ refuses n → refusedAt n 0 0 ≡ loaded
+  pub payload-refused : {n : ℕ} → payloadAt rules s at ≡ refuses n → refusedAt n 0 0 0 ≡ loaded
   unfolding placed nameRaw
   payload-refused {n} e =
       let r : readPayload rules (drop at s) ≡ refuses n = said-refused (PayloadReached rules s at) (payload-reached rules s at within) e in
       rw r
 
-  module _ {span : Span} (e : payloadAt rules s at ≡ gives span) where
-    reached : LoadedAt rules s at span
+  module _ {load : PayloadAt} (e : payloadAt rules s at ≡ gives load) where
+    abbrev span : Span
+    span = load .span
+
+    reached : LoadedAt rules s at load
     reached = said-of (PayloadReached rules s at) (payload-reached rules s at within) e
 
     pub payload-fits : start ≤ endOf span
     payload-fits = let l = reached in omega (arith, l .past, site)
+
+    -- the padding is among the bytes up to there
+    pub payload-padded : at + load .padding ≤ endOf span
+    payload-padded = let l = reached in omega (arith, l .past)
 
     pub payload-inside : endOf span ≤ length s
     payload-inside = reached .inside
@@ -155,63 +162,63 @@ module _ (rules : Rules) (s : List ℕ) (start at st delta : ℕ) (site : Sited 
     uses : length (drop start s) - length (drop (endOf span) s) ≡ endOf span - start
     uses = omega (arith, ends)
 
-    pub payload-sysEx : st ≡ 0xF0 → told (event delta (sysEx span)) (endOf span - start) 0 ≡ loaded
+    pub payload-sysEx : st ≡ 0xF0 → told (event (delta .value) (sysEx span)) (endOf span - start) 0 (delta .padding + load .padding) ≡ loaded
     unfolding placed nameRaw named called mapEvent mapKind
     payload-sysEx t = rw (t, reached .read, carried, uses)
 
-    pub payload-escape : (st ≡ 0xF0 → ⊥) → told (event delta (escape span)) (endOf span - start) 0 ≡ loaded
+    pub payload-escape : (st ≡ 0xF0 → ⊥) → told (event (delta .value) (escape span)) (endOf span - start) 0 (delta .padding + load .padding) ≡ loaded
     unfolding placed nameRaw named called mapEvent mapKind
     payload-escape t = rw (reached .read, ne-eqb st 0xF0 t, carried, uses)
 
 -- Meta events
 
 -- what a meta message makes of its event
-abbrev metaReading : ℕ → Answer MetaTaken → Reading (Taken (Event (List ℕ)))
-metaReading delta (gives t) = reads (taken (event delta (meta (t .message))) (t .rest) 0)
+abbrev metaReading : Delta → Answer MetaTaken → Reading (Taken (Event (List ℕ)))
+metaReading delta (gives t) = reads (taken (event (delta .value) (meta (t .message))) (t .rest) 0 (delta .padding + t .padding))
 metaReading delta (refuses n) = refused n 0
 
-meta-named : (rules : Rules) (delta t : ℕ) (a : Answer Payload)
+meta-named : (rules : Rules) (delta : Delta) (t : ℕ) (a : Answer Payload)
     → nameRaw rules (withPayload delta (typed t) a) ≡ metaReading delta (andThen a (metaNamed rules t))
 unfolding nameRaw named called
 meta-named rules delta t (refuses n) = refl
 meta-named rules delta t (gives p) = by (calledMeta rules t (p .bytes)) where
   by : (a : Answer (Meta (List ℕ)))
-      → named (taken (rawEvent delta (typed t (p .bytes))) (p .rest) 0) (andThen a (λ m. gives (meta m)))
-      ≡ metaReading delta (andThen a (λ m. gives (record { message = m; rest = p .rest })))
+      → named (taken (rawEvent (delta .value) (typed t (p .bytes))) (p .rest) 0 (delta .padding + p .padding)) (andThen a (λ m. gives (meta m)))
+      ≡ metaReading delta (andThen a (λ m. gives (record { message = m; rest = p .rest; padding = p .padding })))
   by (gives m) = refl
   by (refuses n) = refl
 
-meta-reading : (rules : Rules) (delta : ℕ) (u : List ℕ) → nameRaw rules (readMeta rules delta u) ≡ metaReading delta (readMetaMessage rules u)
+meta-reading : (rules : Rules) (delta : Delta) (u : List ℕ) → nameRaw rules (readMeta rules delta u) ≡ metaReading delta (readMetaMessage rules u)
 unfolding readMeta readMetaMessage nameRaw
 meta-reading rules delta [] = refl
 meta-reading rules delta (t ∷ u) = meta-named rules delta t (readPayload rules u)
 
--- what is left behind a meta message is left of what it was read from
+-- what is left behind a meta message is left of what it was read from, and its padding is among the bytes used
 abbrev Less : List ℕ → Answer MetaTaken → Type 0
-Less u (gives t) = length (t .rest) < length u
+Less u (gives t) = t .padding + length (t .rest) < length u
 Less u (refuses n) = Unit {0}
 
 meta-less : (rules : Rules) (u : List ℕ) → Less u (readMetaMessage rules u)
 unfolding readMetaMessage
 meta-less rules [] = tt
 meta-less rules (t ∷ u) = by (readPayload rules u) (payload-loaded rules u) where
-  called-less : (p : Payload) → length (p .rest) ≤ length u → (a : Answer (Meta (List ℕ)))
-      → Less (t ∷ u) (andThen a (λ m. gives (record { message = m; rest = p .rest })))
+  called-less : (p : Payload) → p .padding + length (p .rest) ≤ length u → (a : Answer (Meta (List ℕ)))
+      → Less (t ∷ u) (andThen a (λ m. gives (record { message = m; rest = p .rest; padding = p .padding })))
   called-less p h (gives m) = omega arith
   called-less p h (refuses n) = tt
 
   by : (a : Answer Payload) → PayloadLoaded rules u a → Less (t ∷ u) (andThen a (metaNamed rules t))
-  by (gives p) l = called-less p (omega (arith, l .within)) (calledMeta rules t (p .bytes))
+  by (gives p) l = called-less p (omega (arith, l .padded)) (calledMeta rules t (p .bytes))
   by (refuses n) l = tt
 
-module _ (rules : Rules) (s : List ℕ) (start at delta : ℕ) (site : Sited s start at) where
+module _ (rules : Rules) (s : List ℕ) (start at : ℕ) (delta : Delta) (site : Sited s start at) where
   abbrev typedly : ReadAt
   typedly = placed s start (nameRaw rules (readMeta rules delta (drop at s)))
 
   -- by what the message's reader answered at the place
   abbrev pub Answers : Answer MetaAt → Type 0
-  Answers (gives m) = (told (event delta (meta (m .message))) (m .next - start) 0 ≡ typedly) × (start ≤ m .next)
-  Answers (refuses n) = refusedAt n 0 0 ≡ typedly
+  Answers (gives m) = (told (event (delta .value) (meta (m .message))) (m .next - start) 0 (delta .padding + m .padding) ≡ typedly) × (start ≤ m .next) × (at + m .padding ≤ m .next)
+  Answers (refuses n) = refusedAt n 0 0 0 ≡ typedly
 
   pub meta-answers : Answers (metaAt rules s at)
   unfolding metaAt placed mapEvent mapKind
@@ -221,11 +228,11 @@ module _ (rules : Rules) (s : List ℕ) (start at delta : ℕ) (site : Sited s s
     by (gives t) e l =
         let p : placeOf s start (t .rest) ≡ placeOf s at (t .rest) = site-shift s start at (t .rest) site (omega arith) in
         let u : length (drop start s) - length (t .rest) ≡ placeOf s at (t .rest) - start = omega arith in
-        (rw (meta-reading rules delta (drop at s), e, p, u), omega arith)
+        (rw (meta-reading rules delta (drop at s), e, p, u), omega arith, omega arith)
 
 -- From a status byte on
 
-module _ (rules : Rules) (running delta st : ℕ) (s : List ℕ) where
+module _ (rules : Rules) (running : ℕ) (delta : Delta) (st : ℕ) (s : List ℕ) where
   pub status-channel : st < 0xF0 → readStatus rules running delta st s ≡ readChannel st delta s
   unfolding readStatus
   status-channel h = rw (lt-ltb st 0xF0 h)
@@ -249,7 +256,7 @@ module _ (rules : Rules) (running delta st : ℕ) (s : List ℕ) where
 
 -- From behind the delta on
 
-module _ (rules : Rules) (running delta : ℕ) (s : List ℕ) (at : ℕ) where
+module _ (rules : Rules) (running : ℕ) (delta : Delta) (s : List ℕ) (at : ℕ) where
   pub body-missing : length s ≤ at → readBody rules running delta (drop at s) ≡ refused 4 running
   unfolding readBody
   body-missing h = rw (drop-of-length-le s h)
@@ -281,20 +288,21 @@ running-channel r h z = by (ltb r 0x80) refl (ltb r 0xF0) refl (rw (ne-eqb r 0 z
 -- The whole event
 
 module _ (rules : Rules) (running : ℕ) (s : List ℕ) (at : ℕ) where
-  pub event-invalid : isRunning running ≡ false → refusedAt 1 0 running ≡ eventAt rules running s at
+  pub event-invalid : isRunning running ≡ false → refusedAt 1 0 running 0 ≡ eventAt rules running s at
   unfolding eventAt placed readEvent nameRaw readRaw
   event-invalid h = rw h
 
   module _ (valid : isRunning running ≡ true) where
-    pub event-refused : {n : ℕ} → numberAt rules s at ≡ refuses n → refusedAt n 0 running ≡ eventAt rules running s at
+    pub event-refused : {n : ℕ} → numberAt rules s at ≡ refuses n → refusedAt n 0 running 0 ≡ eventAt rules running s at
     unfolding eventAt placed readEvent nameRaw readRaw afterDelta
     event-refused {n} e =
         let r : readNumber rules (drop at s) ≡ refuses n = said-refused (NumberReached rules s at) (number-reached rules s at) e in
         rw (valid, r)
 
     pub event-body : {n : NumberAt} → numberAt rules s at ≡ gives n
-        → (placed s at (nameRaw rules (readBody rules running (n .value) (drop (n .next) s))) ≡ eventAt rules running s at) × Sited s at (n .next)
+        → (placed s at (nameRaw rules (readBody rules running (record { value = n .value; padding = n .padding }) (drop (n .next) s))) ≡ eventAt rules running s at)
+        × Sited s at (n .next) × (n .padding ≤ n .next)
     unfolding eventAt readEvent readRaw afterDelta
     event-body {n} e =
         let r : Reached rules s at n = said-of (NumberReached rules s at) (number-reached rules s at) e in
-        (rw (valid, r .read), r .site)
+        (rw (valid, r .read, r .padded), r .site, omega (arith, r .padded, r .site))

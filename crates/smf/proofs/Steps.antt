@@ -26,17 +26,18 @@ abbrev pub readerAt : ℕ → ℕ → Reader
 readerAt at running = record { place = at; running = running; count = 0 }
 
 -- an event was taken: it is the next of the list, and the reader moved, within the bytes
-pub record Took (rules : Rules) (most : ℕ) (s : List ℕ) (at : ℕ) (r : Reader) (e : Event Span) (r′ : Reader) : Type 0 where
+pub record Took (rules : Rules) (most : ℕ) (s : List ℕ) (at : ℕ) (r : Reader) (e : Event Span) (padding : ℕ) (r′ : Reader) : Type 0 where
   pub room : r .count < most
   pub counted : r′ .count ≡ r .count + 1
   pub moved : r .place < r′ .place
+  pub padded : r .place + padding ≤ r′ .place
   pub within : r′ .place ≤ length s
   pub site : Sited s at (r′ .place)
-  pub list : listFrom rules most s at r ≡ inFront e (listFrom rules most s at r′)
+  pub list : listFrom rules most s at r ≡ inFront e padding (listFrom rules most s at r′)
 
 -- what a step says of the list
 abbrev pub Stepped : Rules → ℕ → List ℕ → ℕ → Reader → Next → Type 0
-Stepped rules most s at r (takes e r′) = Took rules most s at r e r′
+Stepped rules most s at r (takes e padding r′) = Took rules most s at r e padding r′
 Stepped rules most s at r (stops why) = listFrom rules most s at r ≡ stopsThere why (r .place) (r .running)
 
 -- an event that is read ends within the bytes
@@ -56,13 +57,14 @@ module _ (rules : Rules) (most : ℕ) (s : List ℕ) (at : ℕ) where
 
     event-step : (r .place) < length s → r .count < most → (a : ReadAt) → eventAt rules (r .running) s (r .place) ≡ a → Stepped rules most s at r (stepOn r a)
     unfolding stepOn
-    event-step h room (refusedAt n used after) e = rw (one-less room) (more-refused rules (r .running) s at (r .place) site (most - (r .count + 1)) h e)
+    event-step h room (refusedAt n used after padding) e = rw (one-less room) (more-refused rules (r .running) s at (r .place) site (most - (r .count + 1)) h e)
     event-step h room (readsAt a) e =
         let next = more-next rules (r .running) s at (r .place) site h e in
         record {
           room = room;
           counted = refl;
           moved = next .2;
+          padded = next .3;
           within = next .1;
           site = next .0;
           list = ap (λ (n : ℕ). listPlaced s at (readMore rules n (r .running) (drop (r .place) s))) (one-less room) ∙ more-step rules (r .running) s at (r .place) site (most - (r .count + 1)) h e;

@@ -4,6 +4,7 @@ use mathlib.Core.Bool.{Bool, true, false}
 use mathlib.Core.List.{List, [], _∷_, _++_, append-assoc}
 use mathlib.Core.Logic.{_⊎_, inl, inr, ⊎-elim}
 use Prim.Native.Nat.{ℕ, _+_, _-_, _^_, _≤_, _<_}
+use native.Mathlib.Nat.{add-zero}
 use native.Mathlib.Omega.{arith}
 use lib.Dec.{ltb, eqb}
 use lib.ListN.{length, take, length-append, take-append-drop}
@@ -12,9 +13,9 @@ use Rattle.smf.specs.Answer.{pick, Answer, gives, refuses, Rules, lenien
 use Rattle.smf.specs.Running.{isRunning}
 use Rattle.smf.specs.Number.{Numeral, readNumber, encodeNumber}
 use Rattle.smf.specs.Payload.{Payload, readPayload, encodePayload}
-use Rattle.smf.specs.Wire.{Raw, one, two, system, typed, RawEvent, rawEvent, Taken, taken, Reading, reads, refused, dataLength, readOne, readTwo, readChannel, withPayload, readMeta, readStatus, readBody, afterDelta, readRaw, encodeRaw, runningAfter, encodeRawEvent}
+use Rattle.smf.specs.Wire.{Raw, one, two, system, typed, RawEvent, rawEvent, Taken, taken, Delta, deltaRead, Reading, reads, refused, dataLength, readOne, readTwo, readChannel, withPayload, readMeta, readStatus, readBody, afterDelta, readRaw, encodeRaw, runningAfter, encodeRawEvent}
 use Rattle.smf.proofs.Answer.{pick-test, Alike, pick-alike}
-use Rattle.smf.proofs.Number.{reads-back, Took, NumberTook, read-took, encode-one, number-alike}
+use Rattle.smf.proofs.Number.{reads-back, encode-unpadded, Took, NumberTook, read-took, encode-one, number-alike}
 use Rattle.smf.proofs.Payload.{encode-payload-length, payload-reads-back, PayloadLoaded, payload-loaded, payload-alike}
 use Rattle.smf.proofs.Ends.{Ends, ends-after, loaded-ends}
 use Rattle.smf.proofs.Running.{Channel, channel-runs, none-runs, running-is}
@@ -58,16 +59,17 @@ abbrev pub Fewest : List ℕ → List ℕ → List ℕ → Type 0
 Fewest s bytes rest = (length bytes + length rest ≤ length s) ⊎ ((rest ≡ []) × (length bytes ≤ length s + 1))
 
 -- what every raw event is that is read of the bytes s behind a delta: sound, with s ending in its payload and the rest,
--- and with s no shorter than what is written for it, and the rest
-pub record Body (rules : Rules) (running delta : ℕ) (s : List ℕ) (t : Taken RawEvent) : Type 0 where
-  pub same : t .value .delta ≡ delta
+-- and with s no shorter than what is written for it, and the rest; behind the delta's its padding is among the bytes used
+pub record Body (rules : Rules) (running : ℕ) (delta : Delta) (s : List ℕ) (t : Taken RawEvent) : Type 0 where
+  pub same : t .value .delta ≡ delta .value
   pub sound : Sound (t .value .raw)
   pub after : t .running ≡ runningAfter (t .value .raw)
   pub ends : Ends s (loadOf (t .value .raw)) (t .rest)
   pub fewest : Fewest s (encodeRaw running (t .value .raw)) (t .rest)
   pub shortest : rules .strict ≡ true → length (encodeRaw running (t .value .raw)) + length (t .rest) ≤ length s
+  pub padded : t .padding + length (t .rest) ≤ delta .padding + length s
 
-abbrev BodyRead : Rules → ℕ → ℕ → List ℕ → Reading (Taken RawEvent) → Type 0
+abbrev BodyRead : Rules → ℕ → Delta → List ℕ → Reading (Taken RawEvent) → Type 0
 BodyRead rules running delta s (reads t) = Body rules running delta s t
 BodyRead rules running delta s (refused n after) = Unit {0}
 
@@ -106,11 +108,11 @@ no-bytes : (s : List ℕ) → length s ≡ 0 → s ≡ []
 no-bytes [] h = refl
 no-bytes (b ∷ s) h = absurd (omega arith)
 
-module _ (rules : Rules) (running delta : ℕ) where
+module _ (rules : Rules) (running : ℕ) (delta : Delta) where
   -- a channel event, of whose status bytes no fewer stand in front than are written
   module _ (front : List ℕ) (status : ℕ) (c : Channel status) (f : lead running status ≤ length front) where
     data-read : (raw : Raw) (ds s : List ℕ) → Sound raw → loadOf raw ≡ [] → status ≡ runningAfter raw → length (encodeRaw running raw) ≡ lead running status + length ds
-        → Body rules running delta (front ++ (ds ++ s)) (taken (rawEvent delta raw) s status)
+        → Body rules running delta (front ++ (ds ++ s)) (taken (rawEvent (delta .value) raw) s status (delta .padding))
     data-read raw ds s sound bare after size =
         let n : length (encodeRaw running raw) + length s ≤ length (front ++ (ds ++ s)) = omega (arith, length-append front (ds ++ s), length-append ds s) in
         record {
@@ -120,6 +122,7 @@ module _ (rules : Rules) (running delta : ℕ) where
           ends = rw bare (record { before = front ++ ds; whole = sym (append-assoc front ds s) });
           fewest = inl n;
           shortest = λ strict. n;
+          padded = omega (arith, length-append front (ds ++ s), length-append ds s);
         }
 
     one-read : (ds : List ℕ) → takesOne status ≡ true → BodyRead rules running delta (front ++ ds) (readOne status delta ds)
@@ -166,6 +169,7 @@ module _ (rules : Rules) (running delta : ℕ) where
             (λ f. inl (omega arith))
             (g .fewest);
         shortest = λ strict. omega (arith, g .shortest strict);
+        padded = omega (arith, g .padded);
       }
 
   meta-read : (s : List ℕ) → BodyRead rules running delta (0xFF ∷ s) (readMeta rules delta s)
@@ -193,7 +197,7 @@ module _ (rules : Rules) (running delta : ℕ) where
       (λ n. ⊎-elim (λ z. absurd (eqb-false running 0 n z)) (λ c. channel-read [] running c (omega (arith, lead-spared running)) (b ∷ s)) (running-is running is)))
       (λ e. status-read b s (ltb-false b 0x80 e))
 
--- the same of the bytes s that begin with the delta; and the event ends past its start
+-- the same of the bytes s that begin with the delta; and the event ends past its start, with its padding among the bytes used
 pub record Read (rules : Rules) (running : ℕ) (s : List ℕ) (t : Taken RawEvent) : Type 0 where
   pub small : t .value .delta < 2 ^ 28
   pub sound : Sound (t .value .raw)
@@ -202,6 +206,7 @@ pub record Read (rules : Rules) (running : ℕ) (s : List ℕ) (t : Taken RawEve
   pub ends : Ends s (loadOf (t .value .raw)) (t .rest)
   pub fewest : Fewest s (encodeRawEvent running (t .value)) (t .rest)
   pub shortest : rules .strict ≡ true → length (encodeRawEvent running (t .value)) + length (t .rest) ≤ length s
+  pub padded : t .padding + length (t .rest) ≤ length s
 
 abbrev pub RawRead : Rules → ℕ → List ℕ → Reading (Taken RawEvent) → Type 0
 RawRead rules running s (reads t) = Read rules running s t
@@ -220,7 +225,7 @@ raw-event-length running e = length-append (encodeNumber (e .delta)) (encodeRaw 
 
 module _ (rules : Rules) (running : ℕ) (s : List ℕ) where
   -- a delta, and behind it a body of some bytes
-  with-delta : (n : Numeral) → Took rules s n → 0 < length (n .rest) → (a : Reading (Taken RawEvent)) → BodyRead rules running (n .value) (n .rest) a → RawRead rules running s a
+  with-delta : (n : Numeral) → Took rules s n → 0 < length (n .rest) → (a : Reading (Taken RawEvent)) → BodyRead rules running (deltaRead s n) (n .rest) a → RawRead rules running s a
   with-delta n k some (refused m after) g = tt
   with-delta n k some (reads t) g =
       let few : length (encodeNumber (n .value)) + length (n .rest) ≤ length s = ⊎-elim (λ z. absurd (omega (arith, k .within, ap length z))) (λ f. f) (k .fewest) in
@@ -238,15 +243,16 @@ module _ (rules : Rules) (running : ℕ) (s : List ℕ) where
         ends = ends-after (take (length s - length (n .rest)) s) (n .rest) split (g .ends);
         fewest = ⊎-elim (λ f. inl (omega arith)) (λ f. inr (f .0, omega (arith, f .1))) (g .fewest);
         shortest = λ strict. omega (arith, g .shortest strict);
+        padded = omega (arith, g .padded, k .within);
       }
 
-  delta-read : (a : Answer Numeral) → NumberTook rules s a → isRunning running ≡ true → RawRead rules running s (afterDelta rules running a)
+  delta-read : (a : Answer Numeral) → NumberTook rules s a → isRunning running ≡ true → RawRead rules running s (afterDelta rules running s a)
   unfolding afterDelta readBody
   delta-read (refuses m) k is = tt
   delta-read (gives n) k is = by (n .rest) refl where
-    by : (l : List ℕ) → n .rest ≡ l → RawRead rules running s (readBody rules running (n .value) (n .rest))
+    by : (l : List ℕ) → n .rest ≡ l → RawRead rules running s (readBody rules running (deltaRead s n) (n .rest))
     by [] e = rw e tt
-    by (b ∷ l) e = with-delta n k (omega (arith, ap length e)) (readBody rules running (n .value) (n .rest)) (body-read rules running (n .value) (n .rest) is)
+    by (b ∷ l) e = with-delta n k (omega (arith, ap length e)) (readBody rules running (deltaRead s n) (n .rest)) (body-read rules running (deltaRead s n) (n .rest) is)
 
   -- what every raw event that is read is, in either mode
   pub raw-read : RawRead rules running s (readRaw rules running s)
@@ -259,12 +265,12 @@ pick-append : (t : Bool) (x y s : List ℕ) → pick t x y ++ s ≡ pick t (x ++
 pick-append true x y s = refl
 pick-append false x y s = refl
 
-module _ (rules : Rules) (running delta : ℕ) where
-  one-back : (status a : ℕ) (rest : List ℕ) → Sound (one status a) → readChannel status delta (a ∷ rest) ≡ reads (taken (rawEvent delta (one status a)) rest status)
+module _ (rules : Rules) (running : ℕ) (delta : Delta) where
+  one-back : (status a : ℕ) (rest : List ℕ) → Sound (one status a) → readChannel status delta (a ∷ rest) ≡ reads (taken (rawEvent (delta .value) (one status a)) rest status (delta .padding))
   unfolding readChannel readOne
   one-back status a rest h = rw (h .1, lt-ltb a 0x80 (h .2))
 
-  two-back : (status a b : ℕ) (rest : List ℕ) → Sound (two status a b) → readChannel status delta (a ∷ b ∷ rest) ≡ reads (taken (rawEvent delta (two status a b)) rest status)
+  two-back : (status a b : ℕ) (rest : List ℕ) → Sound (two status a b) → readChannel status delta (a ∷ b ∷ rest) ≡ reads (taken (rawEvent (delta .value) (two status a b)) rest status (delta .padding))
   unfolding readChannel readTwo
   two-back status a b rest h = rw (h .1, lt-ltb a 0x80 (h .2), lt-ltb b 0x80 (h .3))
 
@@ -286,8 +292,8 @@ module _ (rules : Rules) (running delta : ℕ) where
       (λ e. at-channel status (a ∷ s) c)
 
   load-back : (of : List ℕ → Raw) (p rest : List ℕ) → length p < 2 ^ 28
-      → withPayload delta of (readPayload rules (encodePayload p ++ rest)) ≡ reads (taken (rawEvent delta (of p)) rest 0)
-  load-back of p rest h = rw (payload-reads-back rules p rest h)
+      → withPayload delta of (readPayload rules (encodePayload p ++ rest)) ≡ reads (taken (rawEvent (delta .value) (of p)) rest 0 (delta .padding))
+  load-back of p rest h = rw (payload-reads-back rules p rest h, add-zero)
 
   system-back : (status : ℕ) (s : List ℕ) → (status ≡ 0xF0) ⊎ (status ≡ 0xF7) → readBody rules running delta (status ∷ s) ≡ withPayload delta (system status) (readPayload rules s)
   unfolding readBody readStatus
@@ -297,7 +303,7 @@ module _ (rules : Rules) (running delta : ℕ) where
   unfolding readBody readStatus readMeta
   typed-back t s = refl
 
-  body-back : (raw : Raw) (rest : List ℕ) → Sound raw → readBody rules running delta (encodeRaw running raw ++ rest) ≡ reads (taken (rawEvent delta raw) rest (runningAfter raw))
+  body-back : (raw : Raw) (rest : List ℕ) → Sound raw → readBody rules running delta (encodeRaw running raw ++ rest) ≡ reads (taken (rawEvent (delta .value) raw) rest (runningAfter raw) (delta .padding))
   unfolding encodeRaw
   body-back (one status a) rest h =
       rw (pick-append (eqb running status) (a ∷ []) (status ∷ a ∷ []) rest) (spared status a rest (h .0) (h .2) ∙ one-back status a rest h)
@@ -306,12 +312,13 @@ module _ (rules : Rules) (running delta : ℕ) where
   body-back (system status p) rest h = system-back status (encodePayload p ++ rest) (h .0) ∙ load-back (system status) p rest (h .1)
   body-back (typed t p) rest h = typed-back t (encodePayload p ++ rest) ∙ load-back (typed t) p rest h
 
--- a raw event written is read back, in both modes, whatever follows
+-- a raw event written is read back, in both modes, whatever follows, and has no padding
 pub raw-reads-back : (rules : Rules) (running : ℕ) (e : RawEvent) (rest : List ℕ) → isRunning running ≡ true → e .delta < 2 ^ 28 → Sound (e .raw)
-    → readRaw rules running (encodeRawEvent running e ++ rest) ≡ reads (taken e rest (runningAfter (e .raw)))
+    → readRaw rules running (encodeRawEvent running e ++ rest) ≡ reads (taken e rest (runningAfter (e .raw)) 0)
 unfolding readRaw encodeRawEvent afterDelta
 raw-reads-back rules running e rest is small h =
-    rw (is, append-assoc, reads-back rules (e .delta) (encodeRaw running (e .raw) ++ rest) small) (body-back rules running (e .delta) (e .raw) rest h)
+    let behind = encodeRaw running (e .raw) ++ rest in
+    rw (is, append-assoc, reads-back rules (e .delta) behind small, encode-unpadded (e .delta) behind) (body-back rules running (record { value = e .delta; padding = 0 }) (e .raw) rest h)
 
 -- What strict reading accepts, lenient reads alike
 
@@ -325,19 +332,19 @@ reads-self (reads t) = refl
 reads-self (refused n after) = tt
 
 module _ (rules : Rules) where
-  load-alike : (delta : ℕ) (of : List ℕ → Raw) (a b : Answer Payload) → Alike a b → ReadsAlike (withPayload delta of a) (withPayload delta of b)
+  load-alike : (delta : Delta) (of : List ℕ → Raw) (a b : Answer Payload) → Alike a b → ReadsAlike (withPayload delta of a) (withPayload delta of b)
   load-alike delta of (gives p) b h = rw h
   load-alike delta of (refuses n) b h = tt
 
-  loads-alike : (delta : ℕ) (of : List ℕ → Raw) (s : List ℕ) → ReadsAlike (withPayload delta of (readPayload rules s)) (withPayload delta of (readPayload (leniently rules) s))
+  loads-alike : (delta : Delta) (of : List ℕ → Raw) (s : List ℕ) → ReadsAlike (withPayload delta of (readPayload rules s)) (withPayload delta of (readPayload (leniently rules) s))
   loads-alike delta of s = load-alike delta of (readPayload rules s) (readPayload (leniently rules) s) (payload-alike rules s)
 
-  meta-alike : (delta : ℕ) (s : List ℕ) → ReadsAlike (readMeta rules delta s) (readMeta (leniently rules) delta s)
+  meta-alike : (delta : Delta) (s : List ℕ) → ReadsAlike (readMeta rules delta s) (readMeta (leniently rules) delta s)
   unfolding readMeta
   meta-alike delta [] = tt
   meta-alike delta (t ∷ s) = loads-alike delta (typed t) s
 
-  status-alike : (running delta status : ℕ) (s : List ℕ) → ReadsAlike (readStatus rules running delta status s) (readStatus (leniently rules) running delta status s)
+  status-alike : (running : ℕ) (delta : Delta) (status : ℕ) (s : List ℕ) → ReadsAlike (readStatus rules running delta status s) (readStatus (leniently rules) running delta status s)
   unfolding readStatus
   status-alike running delta status s =
       pick-alike ReadsAlike (ltb status 0xF0) (reads-self (readChannel status delta s))
@@ -345,17 +352,17 @@ module _ (rules : Rules) where
       (pick-alike ReadsAlike (eqb status 0xF0) (loads-alike delta (system status) s)
       (pick-alike ReadsAlike (eqb status 0xF7) (loads-alike delta (system status) s) (reads-self (pick (ltb status 0xF7) (refused 6 running) (refused 7 running))))))
 
-  body-alike : (running delta : ℕ) (s : List ℕ) → ReadsAlike (readBody rules running delta s) (readBody (leniently rules) running delta s)
+  body-alike : (running : ℕ) (delta : Delta) (s : List ℕ) → ReadsAlike (readBody rules running delta s) (readBody (leniently rules) running delta s)
   unfolding readBody
   body-alike running delta [] = tt
   body-alike running delta (b ∷ s) =
       pick-alike ReadsAlike (ltb b 0x80) (reads-self (pick (eqb running 0) (refused 5 running) (readChannel running delta (b ∷ s)))) (status-alike running delta b s)
 
-  delta-alike : (running : ℕ) (a b : Answer Numeral) → Alike a b → ReadsAlike (afterDelta rules running a) (afterDelta (leniently rules) running b)
+  delta-alike : (running : ℕ) (s : List ℕ) (a b : Answer Numeral) → Alike a b → ReadsAlike (afterDelta rules running s a) (afterDelta (leniently rules) running s b)
   unfolding afterDelta
-  delta-alike running (gives n) b h = rw h (body-alike running (n .value) (n .rest))
-  delta-alike running (refuses n) b h = tt
+  delta-alike running s (gives n) b h = rw h (body-alike running (deltaRead s n) (n .rest))
+  delta-alike running s (refuses n) b h = tt
 
   pub raw-alike : (running : ℕ) (s : List ℕ) → ReadsAlike (readRaw rules running s) (readRaw (leniently rules) running s)
   unfolding readRaw
-  raw-alike running s = pick-alike ReadsAlike (isRunning running) (delta-alike running (readNumber rules s) (readNumber (leniently rules) s) (number-alike rules s)) tt
+  raw-alike running s = pick-alike ReadsAlike (isRunning running) (delta-alike running s (readNumber rules s) (readNumber (leniently rules) s) (number-alike rules s)) tt

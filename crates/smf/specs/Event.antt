@@ -55,7 +55,7 @@ mapEvent f e = event (e .delta) (mapKind f (e .kind))
 
 -- an event named: 12, 13 and 14 leave no running status, as every meta event does
 unfoldable pub named : Taken RawEvent → Answer (Kind (List ℕ)) → Reading (Taken (Event (List ℕ)))
-named t (gives kind) = reads (taken (event (t .value .delta) kind) (t .rest) (t .running))
+named t (gives kind) = reads (taken (event (t .value .delta) kind) (t .rest) (t .running) (t .padding))
 named t (refuses n) = refused n (t .running)
 
 -- a raw event that was read, named; a refusal stays what it is
@@ -67,11 +67,12 @@ nameRaw rules (refused n running) = refused n running
 unfoldable pub readEvent : Rules → ℕ → List ℕ → Reading (Taken (Event (List ℕ)))
 readEvent rules running s = nameRaw rules (readRaw rules running s)
 
--- an event read at a place: payloads as start and length in the bytes lent, the bytes used, the running status after
+-- an event read at a place: payloads as start and length in the bytes lent, the bytes used, the running status after, the padding of its numbers
 pub record EventAt : Type 0 where
   pub event : Event Span
   pub used : ℕ
   pub running : ℕ
+  pub padding : ℕ
 
 -- a payload ends where its event ends
 abbrev pub spanBefore : ℕ → List ℕ → Span
@@ -84,17 +85,18 @@ eventPlaced s at t =
       event = mapEvent (spanBefore (placeOf s at (t .rest))) (t .value);
       used = length (drop at s) - length (t .rest);
       running = t .running;
+      padding = t .padding;
     }
 
--- what reading an event at a place answers: the event; or the number of a refusal, the bytes used and the running status that it leaves
+-- what reading an event at a place answers: the event; or the number of a refusal, the bytes used, the running status that it leaves and the padding
 pub data ReadAt : Type 0 where
   readsAt : EventAt → ReadAt
-  refusedAt : (number used running : ℕ) → ReadAt
+  refusedAt : (number used running padding : ℕ) → ReadAt
 
--- document 01: a refused read of one event gives the number, 0 bytes used and the running status the Rust is left with
+-- document 01: a refused read of one event gives the number, 0 bytes used and the running status the Rust is left with; document 02, Q-2: and padding 0
 unfoldable pub placed : List ℕ → ℕ → Reading (Taken (Event (List ℕ))) → ReadAt
 placed s at (reads t) = readsAt (eventPlaced s at t)
-placed s at (refused n running) = refusedAt n 0 running
+placed s at (refused n running) = refusedAt n 0 running 0
 
 -- the event at a place
 unfoldable pub eventAt : Rules → ℕ → List ℕ → ℕ → ReadAt

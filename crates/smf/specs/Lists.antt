@@ -60,12 +60,18 @@ takenEvent t = t .value
 abbrev pub eventsOf : ListTaken → List (Event (List ℕ))
 eventsOf l = map takenEvent (l .events)
 
--- a list read at a place: payloads as start and length in the bytes lent, and the place of the next unread byte
+-- document 02, Q-2: the padding of a list is the sum over its events
+unfoldable pub paddings : List (Taken (Event (List ℕ))) → ℕ
+paddings [] = 0
+paddings (t ∷ ts) = t .padding + paddings ts
+
+-- a list read at a place: payloads as start and length in the bytes lent, the place of the next unread byte, and the padding
 pub record ListAt : Type 0 where
   pub events : List (Event Span)
   pub stop : Stop
   pub place : ℕ
   pub running : ℕ
+  pub padding : ℕ
 
 -- an event of a list that was read from a place on, with its payload as a range of the bytes lent
 abbrev pub eventFrom : List ℕ → ℕ → Taken (Event (List ℕ)) → Event Span
@@ -79,6 +85,7 @@ listPlaced s at l =
       stop = l .stop;
       place = placeOf s at (l .rest);
       running = l .running;
+      padding = paddings (l .events);
     }
 
 -- the list at a place
@@ -93,15 +100,15 @@ pub record Reader : Type 0 where
   pub running : ℕ
   pub count : ℕ
 
--- the next event of the list, and where the reader is behind it; or why reading stops, and the reader stays where it is
+-- the next event of the list, its padding, and where the reader is behind it; or why reading stops, and the reader stays where it is
 pub data Next : Type 0 where
-  takes : Event Span → Reader → Next
+  takes : Event Span → (padding : ℕ) → Reader → Next
   stops : Stop → Next
 
 -- one step, by what reading an event answered: on behind it, or stopped by its refusal
 unfoldable pub stepOn : Reader → ReadAt → Next
-stepOn r (readsAt a) = takes (a .event) (record { place = r .place + a .used; running = a .running; count = r .count + 1 })
-stepOn r (refusedAt n used after) = stops (stopped n)
+stepOn r (readsAt a) = takes (a .event) (a .padding) (record { place = r .place + a .used; running = a .running; count = r .count + 1 })
+stepOn r (refusedAt n used after padding) = stops (stopped n)
 
 -- document 01: reading stops at the end, or full, with so many read and bytes left, or refused
 unfoldable pub nextAt : Rules → ℕ → List ℕ → Reader → Next
@@ -129,10 +136,11 @@ pub record ListHeld : Type 0 where
   pub stop : Stop
   pub place : ℕ
   pub running : ℕ
+  pub padding : ℕ
 
 -- what was read, as a list holds it
 abbrev pub heldAs : ℕ → ListAt → ListHeld
-heldAs most l = record { list = holding most (l .events); stop = l .stop; place = l .place; running = l .running }
+heldAs most l = record { list = holding most (l .events); stop = l .stop; place = l .place; running = l .running; padding = l .padding }
 
 -- document 01: bytes read as a list when all of them are used
 pub record ReadsAs (rules : Rules) (most running : ℕ) (s : List ℕ) (es : List (Event (List ℕ))) : Type 0 where

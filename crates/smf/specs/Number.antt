@@ -2,8 +2,9 @@
 -- SMF 1.0: one to four bytes of seven bits each, the highest first, bit 7 set on all but the last.
 use mathlib.Core.Bool.{Bool, true, false}
 use mathlib.Core.List.{List, [], _∷_, _++_}
-use Prim.Native.Nat.{ℕ, zero, suc, _+_, _*_, _/_, _%_}
+use Prim.Native.Nat.{ℕ, zero, suc, _+_, _-_, _*_, _/_, _%_}
 use lib.Dec.{ltb, eqb}
+use lib.ListN.{length}
 use Rattle.smf.specs.Answer.{pick, Answer, gives, refuses, Rules, strictly}
 
 -- the bits so far with a byte's low seven behind them
@@ -55,3 +56,12 @@ numberFrom rules (suc k) bits (b ∷ bs) =
 -- the number that the bytes begin with
 unfoldable pub readNumber : Rules → List ℕ → Answer Numeral
 readNumber rules bytes = numberFrom rules 4 0 bytes
+
+-- Document 02, Q-2: of the bytes used for a value, those beyond the fewest that hold it. A difference stops at 0: fewer are used only where no byte was
+-- there, which is `fewest` of the law `Took` in `smf/proofs/Number.antt`.
+abbrev pub beyondFewest : ℕ → ℕ → ℕ
+beyondFewest used value = used - length (encodeNumber value)
+
+-- the padding of a number that the bytes begin with
+abbrev pub paddingOf : List ℕ → Numeral → ℕ
+paddingOf bytes n = beyondFewest (length bytes - length (n .rest)) (n .value)

@@ -5,21 +5,22 @@ use Prim.Native.Nat.{ℕ, _+_, _-_}
 use lib.Dec.{leb}
 use lib.ListN.{length, take, drop}
 use Rattle.smf.specs.Answer.{Answer, gives, andThen, Rules}
-use Rattle.smf.specs.Number.{Numeral, readNumber}
+use Rattle.smf.specs.Number.{Numeral, readNumber, paddingOf}
 use Rattle.smf.specs.Payload.{Payload, readPayload}
 
 -- the place of what is left, of the bytes s read from place at: at, and as many on as were used
 abbrev pub placeOf : List ℕ → ℕ → List ℕ → ℕ
 placeOf s at rest = at + (length (drop at s) - length rest)
 
--- a number read at a place, and the place after it
+-- a number read at a place, the place after it, and its padding
 pub record NumberAt : Type 0 where
   pub value : ℕ
   pub next : ℕ
+  pub padding : ℕ
 
 -- a number that was read from a place on
 abbrev pub numberPlaced : List ℕ → ℕ → Numeral → NumberAt
-numberPlaced s at n = record { value = n .value; next = placeOf s at (n .rest) }
+numberPlaced s at n = record { value = n .value; next = placeOf s at (n .rest); padding = paddingOf (drop at s) n }
 
 -- the number at a place
 unfoldable pub numberAt : Rules → List ℕ → ℕ → Answer NumberAt
@@ -38,10 +39,19 @@ inside bytes span = leb (span .start + span .length) (length bytes)
 unfoldable pub bytesOf : List ℕ → Span → List ℕ
 bytesOf bytes span = take (span .length) (drop (span .start) bytes)
 
+-- a payload read at a place, and the padding of its number
+pub record PayloadAt : Type 0 where
+  pub span : Span
+  pub padding : ℕ
+
 -- it ends where what is left begins
-abbrev pub payloadPlaced : List ℕ → ℕ → Payload → Span
-payloadPlaced s at p = record { start = placeOf s at (p .rest) - length (p .bytes); length = length (p .bytes) }
+abbrev pub spanPlaced : List ℕ → ℕ → Payload → Span
+spanPlaced s at p = record { start = placeOf s at (p .rest) - length (p .bytes); length = length (p .bytes) }
+
+-- a payload that was read from a place on
+abbrev pub payloadPlaced : List ℕ → ℕ → Payload → PayloadAt
+payloadPlaced s at p = record { span = spanPlaced s at p; padding = p .padding }
 
 -- the payload at a place
-unfoldable pub payloadAt : Rules → List ℕ → ℕ → Answer Span
+unfoldable pub payloadAt : Rules → List ℕ → ℕ → Answer PayloadAt
 payloadAt rules s at = andThen (readPayload rules (drop at s)) (λ (p : Payload). gives (payloadPlaced s at p))

@@ -50,16 +50,16 @@ backReader : smf.Reader → Cursor
 backReader r = record { place = r .place; running = record { status = r .running }; count = r .count }
 
 backNext : smf.Next → Next
-backNext (smf.takes e r) = next.Event (record { event = backEvent e; cursor = backReader r })
+backNext (smf.takes e padding r) = next.Event (record { event = backEvent e; padding = padding; cursor = backReader r })
 backNext (smf.stops why) = next.Stop (backStop why)
 
 sameNext : (n : Next) → backNext (nextOf n) ≡ n
 unfolding backNext backReader
-sameNext (next.Event step) = ap (λ (e : TrackEvent). next.Event (record { event = e; cursor = step .cursor })) (sameEvent (step .event))
+sameNext (next.Event step) = ap (λ (e : TrackEvent). next.Event (record { event = e; padding = step .padding; cursor = step .cursor })) (sameEvent (step .event))
 sameNext (next.Stop why) = ap next.Stop (sameStop why)
 
 backList : smf.ListHeld → ReadList
-backList l = record { list = backHeld (l .list); stop = backStop (l .stop); place = l .place; running = record { status = l .running } }
+backList l = record { list = backHeld (l .list); stop = backStop (l .stop); place = l .place; running = record { status = l .running }; padding = l .padding }
 
 sameList : (r : ReadList) → backList (listRead r) ≡ r
 unfolding backList

@@ -20,5 +20,5 @@ readerOf c = record { place = c .place; running = c .running .status; count = c 
 
 -- what `Cursor::next` answers
 abbrev pub nextOf : Next → smf.Next
-nextOf (next.Event step) = smf.takes (eventOf (step .event)) (readerOf (step .cursor))
+nextOf (next.Event step) = smf.takes (eventOf (step .event)) (step .padding) (readerOf (step .cursor))
 nextOf (next.Stop why) = smf.stops (stopOf why)

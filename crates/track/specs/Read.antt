@@ -6,4 +6,4 @@ use Rattle.track.specs.List.{heldOf}
 
 -- what `EventList::read` answers
 abbrev pub listRead : ReadList → smf.ListHeld
-listRead r = record { list = heldOf (r .list); stop = stopOf (r .stop); place = r .place; running = r .running .status }
+listRead r = record { list = heldOf (r .list); stop = stopOf (r .stop); place = r .place; running = r .running .status; padding = r .padding }

@@ -36,6 +36,8 @@ pub struct Cursor {
 pub struct NextEvent {
     // where the reader is behind the event
     pub cursor: Cursor,
+    // the event's padding
+    pub padding: usize,
     // the event
     pub event: TrackEvent,
 }
@@ -76,7 +78,11 @@ impl Cursor {
                     place: place + e.used,
                     count: count + 1,
                 };
-                Next::Event(NextEvent { cursor, event })
+                Next::Event(NextEvent {
+                    cursor,
+                    padding: e.padding,
+                    event,
+                })
             }
         }
     }

@@ -24,6 +24,8 @@ pub struct ReadList {
     pub place: usize,
     // the running status there
     pub running: Running,
+    // the padding of its events, in all
+    pub padding: usize,
 }
 
 impl EventList {
@@ -37,6 +39,7 @@ impl EventList {
             place: at,
             count: 0,
         };
+        let mut padding: usize = 0;
         let mut stop = Stop::Refused(Refusal::RunningStatus);
         if running.is_valid() {
             stop = loop {
@@ -49,6 +52,7 @@ impl EventList {
                         let count = cursor.count;
                         let kept = recorded(event);
                         list.records[count] = kept;
+                        padding += step.padding;
                         cursor = step.cursor;
                     }
                 }
@@ -61,6 +65,7 @@ impl EventList {
             stop,
             place: cursor.place,
             running: after,
+            padding,
         }
     }
 }

@@ -58,20 +58,20 @@ pub fn tracks(cells: &mut [u64; CELLS]) {
 pub fn wrong(cells: &mut [u64; CELLS]) {
     lines::all(
         b"- answers that are wrong\n\
-          e 0 90 0: 0 F8= 6 0 90\n\
-          e 0 0 0: 0 90 3C 40= 0 4 90 0 9 0 3D 40 0 0 0 0 0\n\
-          n 0 0: 81 0= 0 80 3\n\
+          e 0 90 0: 0 F8= 6 0 90 0\n\
+          e 0 0 0: 0 90 3C 40= 0 4 90 0 0 9 0 3D 40 0 0 0 0 0\n\
+          n 0 0: 81 0= 0 80 2 1\n\
           N 3 0 80:= 0 2 2 81 0 0\n\
-          n 0 0: 81 0= 0 80\n\
-          n 0 0: 81 0= 0 80 2 0\n",
+          n 0 0: 81 0= 0 80 2\n\
+          n 0 0: 81 0= 0 80 2 0 0\n",
         cells,
     );
 }
 
-// Document 01's bytes. More of it stands in the lines of standard input.
+// The documents' bytes. More of them stand in the lines of standard input.
 pub fn worked(cells: &mut [u64; CELLS]) {
     lines::all(
-        b",document 01\n.\n\
+        b",documents 01 and 02\n.\n\
           ,no bytes as an event, strict:\ne 1 0 0:=\n.\n\
           ,no bytes as an event, lenient:\ne 0 0 0:=\n.\n\
           ,no bytes as a list, room 0, strict:\n\

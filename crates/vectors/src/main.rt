@@ -1,4 +1,4 @@
-// SMF's printed examples, document 01's rules by example and stored answers of the Rust, run through the exported
+// SMF's printed examples, the documents' rules by example and stored answers of the Rust, run through the exported
 // entries; restricted numbers and records, which are not exported, through their own functions.
 // What it must write is in the file stdout beside src/: typed from the documents, with the counts that the lines of the
 // file stdin have. How those lines are made, oracle/README.md says.

@@ -19,27 +19,43 @@ use track::list::CAPACITY;
 pub fn number_read(at: usize, rules: u8, bytes: &[u8], cells: &mut [u64; CELLS]) -> usize {
     let mut value: u32 = 0xA5;
     let mut next: usize = 0xA5;
-    let answer = apk_number_read(bytes, at, rules, &mut value, &mut next);
-    put(cells, 0, answer as u64, value as u64, next as u64, 0);
-    3
+    let mut padding: usize = 0xA5;
+    let answer = apk_number_read(bytes, at, rules, &mut value, &mut next, &mut padding);
+    put(
+        cells,
+        0,
+        answer as u64,
+        value as u64,
+        next as u64,
+        padding as u64,
+    );
+    4
 }
 
 // Rules, place.
 pub fn payload_read(at: usize, rules: u8, bytes: &[u8], cells: &mut [u64; CELLS]) -> usize {
     let mut start: usize = 0xA5;
     let mut length: usize = 0xA5;
-    let answer = apk_payload_read(bytes, at, rules, &mut start, &mut length);
-    put(cells, 0, answer as u64, start as u64, length as u64, 0);
-    3
+    let mut padding: usize = 0xA5;
+    let answer = apk_payload_read(bytes, at, rules, &mut start, &mut length, &mut padding);
+    put(
+        cells,
+        0,
+        answer as u64,
+        start as u64,
+        length as u64,
+        padding as u64,
+    );
+    4
 }
 
-// A row behind three numbers, where it is accepted. How many numbers there are then.
+// A row behind four numbers, where it is accepted. How many numbers there are then.
 fn put_row(answer: u8, row: &[u64; WIDTH], cells: &mut [u64; CELLS]) -> usize {
     if 0 < answer {
-        return 3;
+        return 4;
     }
-    copy(row, cells, ANSWER + 3);
-    WIDTH + 3
+    copy(row, cells, ANSWER + 4);
+    WIDTH + 4
 }
 
 // Rules, running status, place.
@@ -53,17 +69,34 @@ pub fn event_read(
     let mut row = [0xA5u64; WIDTH];
     let mut used: usize = 0xA5;
     let mut after: u8 = 0xA5;
-    let answer = apk_event_read(bytes, at, running, rules, &mut row, &mut used, &mut after);
-    put(cells, 0, answer as u64, used as u64, after as u64, 0);
+    let mut padding: usize = 0xA5;
+    let answer = apk_event_read(
+        bytes,
+        at,
+        running,
+        rules,
+        &mut row,
+        &mut used,
+        &mut after,
+        &mut padding,
+    );
+    put(
+        cells,
+        0,
+        answer as u64,
+        used as u64,
+        after as u64,
+        padding as u64,
+    );
     put_row(answer, &row, cells)
 }
 
-// How many numbers the rows of a list are, with four before them; 4 above the most rows.
+// How many numbers the rows of a list are, with five before them; 5 above the most rows.
 fn behind(count: usize) -> usize {
     if CAPACITY < count {
-        return 4;
+        return 5;
     }
-    count * WIDTH + 4
+    count * WIDTH + 5
 }
 
 // Rules, running status, place.
@@ -77,6 +110,7 @@ pub fn list_read(
     let mut count: usize = 0xA5;
     let mut end: usize = 0xA5;
     let mut after: u8 = 0xA5;
+    let mut padding: usize = 0xA5;
     let mut rows = [0xA5u64; CAPACITY * WIDTH];
     let answer = apk_list_read(
         bytes,
@@ -87,6 +121,7 @@ pub fn list_read(
         &mut count,
         &mut end,
         &mut after,
+        &mut padding,
     );
     put(
         cells,
@@ -96,7 +131,8 @@ pub fn list_read(
         end as u64,
         after as u64,
     );
-    copy(&rows, cells, ANSWER + 4);
+    put(cells, 4, padding as u64, 0, 0, 0);
+    copy(&rows, cells, ANSWER + 5);
     behind(count)
 }
 

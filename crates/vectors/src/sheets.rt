@@ -11,15 +11,15 @@ use loader_track::sameness::apk_list_same;
 // The most cells that are lent.
 const LENT: usize = 64;
 
-// The cells at the end, behind four numbers. How many numbers there are then.
+// The cells at the end, behind five numbers. How many numbers there are then.
 fn put_lent(lent: &[u64; LENT], n: usize, cells: &mut [u64; CELLS]) -> usize {
     let all: &[u64] = lent;
     let start: usize = 0;
     if LENT < n {
-        return 4;
+        return 5;
     }
-    copy(&all[start..n], cells, ANSWER + 4);
-    n + 4
+    copy(&all[start..n], cells, ANSWER + 5);
+    n + 5
 }
 
 // Rules, running status, place, how many cells are lent, each A5: all of them are answered.
@@ -30,6 +30,7 @@ pub fn read(given: Given, bytes: &[u8], cells: &mut [u64; CELLS]) -> usize {
     let mut count: usize = 0xA5;
     let mut end: usize = 0xA5;
     let mut after: u8 = 0xA5;
+    let mut padding: usize = 0xA5;
     if LENT < n {
         return 0;
     }
@@ -42,6 +43,7 @@ pub fn read(given: Given, bytes: &[u8], cells: &mut [u64; CELLS]) -> usize {
         &mut count,
         &mut end,
         &mut after,
+        &mut padding,
     );
     put(
         cells,
@@ -51,6 +53,7 @@ pub fn read(given: Given, bytes: &[u8], cells: &mut [u64; CELLS]) -> usize {
         end as u64,
         after as u64,
     );
+    put(cells, 4, padding as u64, 0, 0, 0);
     put_lent(&lent, n, cells)
 }
 

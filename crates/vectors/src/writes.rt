@@ -152,11 +152,12 @@ fn list(given: Given, bytes: &[u8], out: &mut [u8], cells: &mut [u64; CELLS]) ->
     )
 }
 
-// Room, rules: a list is read from no running status, and written back.
+// Room, rules: a list is read from no running status, and written back. Its rows stand behind five numbers, of which
+// the last, the padding, is not kept.
 fn list_back(rules: u8, bytes: &[u8], out: &mut [u8], cells: &mut [u64; CELLS]) -> usize {
     list_read(0, 0, rules, bytes, cells);
     let count = place(cells[ANSWER + 1]);
-    list_written(ANSWER + 3, CELLS - 1, count, 0, rules, bytes, out, cells)
+    list_written(ANSWER + 4, CELLS - 1, count, 0, rules, bytes, out, cells)
 }
 
 // What a letter asks.

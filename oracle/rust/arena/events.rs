@@ -2,6 +2,7 @@
 
 use super::{
     kinds::{self, KINDS},
+    padding::{self, PADDED},
     port,
     random::Random,
     refusal,
@@ -45,12 +46,12 @@ pub fn run(mut random: Random, full: bool) -> Vec<Entry> {
         &[0, 4, 5, 6, 7, 8, 9, 10, 13, 14]
     };
     let mut it = Events {
-        short: Entry::new("apk_event_read, up to three bytes", &[0, 4, 5, 6, 7, 8, 9]).counting(&KINDS),
-        four: Some(Entry::new("apk_event_read, every four bytes", &FOUR).counting(&KINDS)).filter(|_| full),
-        status: Entry::new("apk_event_read, a status and every two bytes behind it", &[0, 5, 6, 7, 9]).counting(&KINDS),
-        types: Entry::new("apk_event_read, every meta type", &[0, 4, 10, 13, 14]).counting(&KINDS),
-        sample: Entry::new("apk_event_read, up to 23 bytes at places", due).counting(&KINDS),
-        strings: Entry::new("apk_event_read, up to 600 bytes", due).of_kinds(&KINDS),
+        short: some("apk_event_read, up to three bytes", &[0, 4, 5, 6, 7, 8, 9]).counting(&PADDED),
+        four: Some(some("apk_event_read, every four bytes", &FOUR).of_kinds(&PADDED)).filter(|_| full),
+        status: some("apk_event_read, a status and every two bytes behind it", &[0, 5, 6, 7, 9]).counting(&PADDED),
+        types: some("apk_event_read, every meta type", &[0, 4, 10, 13, 14]).counting(&PADDED),
+        sample: some("apk_event_read, up to 23 bytes at places", due).of_kinds(&PADDED),
+        strings: Entry::new("apk_event_read, up to 600 bytes", due).of_kinds(&KINDS).of_kinds(&PADDED),
     };
     let every: Vec<u8> = Some(0).into_iter().chain(0x80..=0xEF).collect();
     every.iter().for_each(|&running| it.two_bytes(running));
@@ -66,6 +67,11 @@ pub fn run(mut random: Random, full: bool) -> Vec<Entry> {
     let mut entries = vec![it.short, it.status, it.types, it.sample, it.strings];
     entries.extend(it.four);
     entries
+}
+
+/// An entry that counts the kinds of events, of which it need not see each.
+fn some(name: &'static str, due: &'static [u8]) -> Entry {
+    Entry::new(name, due).counting(&KINDS)
 }
 
 // ---- what is compared
@@ -184,16 +190,25 @@ fn four(entry: &mut Entry, bytes: [u8; 4], running: u8, alike: &mut [Option<Answ
     let mut answer = *alike[delta.is_ok() as usize].get_or_insert_with(|| rust(&bytes, 0, running));
     if let (Some(row), Ok(delta)) = (&mut (answer.1).0, delta) {
         row[0] = delta.as_int() as u64;
-        entry.of_kind(kinds::of(row));
+        (answer.1).3 = padding::of_event(&bytes).sum();
     }
+    count(entry, &answer, &bytes, 0);
     entry.compare(answer, port::event_read(&bytes, 0, running), bytes.len(), || told(&bytes, 0, running));
+}
+
+/// Counts an event that was accepted: its kind, and which of its numbers are padded.
+fn count(entry: &mut Entry, answer: &Answer, bytes: &[u8], at: usize) {
+    if let Some(row) = &(answer.1).0 {
+        entry.of_kind(kinds::of(row));
+        if (answer.1).3 > 0 {
+            padding::of_event(&bytes[at..]).count(entry, KINDS.len());
+        }
+    }
 }
 
 fn one(entry: &mut Entry, bytes: &[u8], at: usize, running: u8) {
     let (rust, port) = asked(bytes, at, running);
-    if let Some(row) = &(rust.1).0 {
-        entry.of_kind(kinds::of(row));
-    }
+    count(entry, &rust, bytes, at);
     let answers = (rust.0, port.0);
     if entry.compare(rust, port, bytes.len(), || told(bytes, at, running)) && entry.is_new(answers) {
         smaller(entry, bytes, at, running);
@@ -221,17 +236,20 @@ fn told(bytes: &[u8], at: usize, running: u8) -> String {
     format!("{:?} at {} running {:02X}", Bytes(bytes), at, running)
 }
 
-// ---- what the Rust answers
+// ---- what the Rust answers, and the padding beside it, which is 0 where an event is refused
 
-type Answer = (u8, (Option<Row>, usize, u8));
+type Answer = (u8, (Option<Row>, usize, u8, usize));
 
 fn rust(bytes: &[u8], at: usize, running: u8) -> Answer {
     let mut left = if at <= bytes.len() { &bytes[at..] } else { &[] };
     let whole = left.len();
     let mut status = if running == 0 { None } else { Some(running) };
     match TrackEvent::read(&mut left, &mut status) {
-        Ok(event) => (0, (Some(row(&event, bytes)), whole - left.len(), status.unwrap_or(0))),
-        Err(error) => (refusal::of(&error), (None, 0, status.unwrap_or(0))),
+        Ok(event) => {
+            let padding = padding::of_event(&bytes[at..]).sum();
+            (0, (Some(row(&event, bytes)), whole - left.len(), status.unwrap_or(0), padding))
+        }
+        Err(error) => (refusal::of(&error), (None, 0, status.unwrap_or(0), 0)),
     }
 }
 

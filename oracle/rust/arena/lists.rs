@@ -3,6 +3,7 @@
 
 use super::{
     events, kinds, listing,
+    padding::PADDED,
     port::{self, Laid, Sheet},
     random::Random,
     reads::{Reads, Rows, CELL, HOW},
@@ -94,7 +95,7 @@ impl Lists {
             none: Entry::new("apk_list_read, from a running status that is none", &[1]),
             length: Entry::new("apk_list_length", &[0]),
             write: Entry::new("apk_list_write", &[0, 20]).of_kinds(&["empty lists", "full lists"]),
-            back: Entry::new("apk_list_read, of what was written", &[0]).counting(&HOW).counting(&kinds::KINDS),
+            back: back("apk_list_read, of what was written"),
             illegal: Entry::new("apk_list_write, refused (by document 01's rule)", refused),
             illegal_length: Entry::new("apk_list_length, refused (by document 01's rule)", refused),
             same: Entry::new("apk_list_same", &[0, 18, 21]).of_kinds(&["the same", "not the same"]),
@@ -110,6 +111,11 @@ impl Lists {
             lent,
         }
     }
+}
+
+/// Of what was written, which counts what `Reads` does: it need not see each, and sees no padding.
+fn back(name: &'static str) -> Entry {
+    Entry::new(name, &[0]).counting(&HOW).counting(&kinds::KINDS).counting(&PADDED)
 }
 
 // ---- what is compared
@@ -310,7 +316,7 @@ impl Lists {
         self.bytes.clear();
         let mut status = option(list.running);
         list.events.iter().for_each(|event| event.write(&mut status, &mut self.bytes).unwrap());
-        let (_, (count, _, _)) = port::list_read(&self.bytes, 0, list.running, &mut back);
+        let (_, (count, ..)) = port::list_read(&self.bytes, 0, list.running, &mut back);
         let bytes = core::mem::take(&mut self.bytes);
         self.lists_same(list, &list.events, Sheet { rows: &back, count: count.unwrap(), payload: &bytes });
         self.bytes = bytes;
@@ -380,7 +386,7 @@ impl Lists {
         } else if let (false, (0, (Some(length), after, _))) = (differs, rust) {
             let bytes = &self.port_out[..length];
             let read = self.reads.compare(&mut self.back, bytes, 0, list.running, |_| WIDTH * sheet.count);
-            assert!(read.is_whole(sheet.count, length, after), "the Rust reads another list than it wrote");
+            assert!(read.is_whole(sheet.count, length, after), "the Rust reads another list than it wrote, or padding");
         }
         self.rust_out[..whole].copy_from_slice(&self.lent[..whole]);
         self.port_out[..whole].copy_from_slice(&self.lent[..whole]);

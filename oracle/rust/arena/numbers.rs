@@ -2,7 +2,7 @@
 //! `write_varlen_slice`.
 
 use super::{
-    port,
+    padding, port,
     random::Random,
     refusal,
     report::{Bytes, Entry},
@@ -17,6 +17,9 @@ const STRICT: u8 = cfg!(feature = "strict") as u8;
 
 /// The first number of each length, the first that is too large, and the largest of 32 bits.
 const EDGES: [u32; 6] = [0, 1 << 7, 1 << 14, 1 << 21, 1 << 28, u32::MAX];
+
+/// What is counted of numbers, by themselves and in front of payloads, that are accepted.
+const WHETHER_PADDED: [&str; 2] = ["no padding", "padded"];
 
 struct Numbers {
     random: Random,
@@ -35,10 +38,10 @@ pub fn run(random: Random, full: bool) -> Vec<Entry> {
     let strict = STRICT != 0;
     let mut it = Numbers {
         random,
-        read: Entry::new("apk_number_read", if strict { &[0, 2, 3] } else { &[0] }),
+        read: Entry::new("apk_number_read", if strict { &[0, 2, 3] } else { &[0] }).of_kinds(&WHETHER_PADDED),
         length: Entry::new("apk_number_length", &[0]),
         write: Entry::new("apk_number_write", &[0, 18, 20]),
-        payload_read: Entry::new("apk_payload_read", if strict { &[0, 2, 3, 11] } else { &[0] }),
+        payload_read: Entry::new("apk_payload_read", if strict { &[0, 2, 3, 11] } else { &[0] }).of_kinds(&WHETHER_PADDED),
         payload_write: Entry::new("apk_payload_write", &[0, 19, 20, 22]),
         lent: Vec::new(),
         rust_out: Vec::new(),
@@ -228,8 +231,12 @@ impl Numbers {
         let whole = from(bytes, at);
         let mut rest = whole;
         let rust = match u28::read_u7(&mut rest) {
-            Ok(number) => (0, (Some(number.as_int()), Some(at + (whole.len() - rest.len())))),
-            Err(kind) => (refusal::of_kind(kind), (None, None)),
+            Ok(number) => {
+                let padding = padding::of_number(whole);
+                self.read.of_kind((padding > 0) as usize);
+                (0, (Some(number.as_int()), Some(at + (whole.len() - rest.len())), Some(padding)))
+            }
+            Err(kind) => (refusal::of_kind(kind), (None, None, None)),
         };
         let port = port::number_read(bytes, at, rules);
         self.read.compare(rust, port, bytes.len(), || told(bytes, at, rules));
@@ -240,8 +247,12 @@ impl Numbers {
         let mut rest = whole;
         let rust = match read_varlen_slice(&mut rest) {
             // the slice of a payload that was cut may stand elsewhere, but a payload ends where its reading does
-            Ok(slice) => (0, (Some(at + (whole.len() - rest.len()) - slice.len()), Some(slice.len()))),
-            Err(error) => (refusal::of(&error), (None, None)),
+            Ok(slice) => {
+                let padding = padding::of_number(whole);
+                self.payload_read.of_kind((padding > 0) as usize);
+                (0, (Some(at + (whole.len() - rest.len()) - slice.len()), Some(slice.len()), Some(padding)))
+            }
+            Err(error) => (refusal::of(&error), (None, None, None)),
         };
         let port = port::payload_read(bytes, at, rules);
         self.payload_read.compare(rust, port, bytes.len(), || told(bytes, at, rules));

@@ -7,12 +7,13 @@ use super::sizes::{Row, Table, CHANNELS, WIDTH};
 // Rust on x86-64 would take them for zeros.
 extern "C" {
     fn apk_number_read(
-        bytes: *const u8, length: usize, at: usize, rules: u8, value: *mut u32, next: *mut usize,
+        bytes: *const u8, length: usize, at: usize, rules: u8, value: *mut u32, next: *mut usize, padding: *mut usize,
     ) -> u32;
     fn apk_number_length(value: u32) -> usize;
     fn apk_number_write(value: u32, out: *mut u8, length: usize, at: usize, next: *mut usize) -> u32;
     fn apk_payload_read(
-        bytes: *const u8, length: usize, at: usize, rules: u8, start: *mut usize, found: *mut usize,
+        bytes: *const u8, length: usize, at: usize, rules: u8,
+        start: *mut usize, found: *mut usize, padding: *mut usize,
     ) -> u32;
     fn apk_payload_write(
         payload: *const u8, payload_length: usize, start: usize, length: usize,
@@ -20,7 +21,7 @@ extern "C" {
     ) -> u32;
     fn apk_event_read(
         bytes: *const u8, length: usize, at: usize, running: u8, rules: u8,
-        row: *mut Row, used: *mut usize, after: *mut u8,
+        row: *mut Row, used: *mut usize, after: *mut u8, padding: *mut usize,
     ) -> u32;
     fn apk_event_length(
         row: *const Row, payload: *const u8, payload_length: usize, running: u8, rules: u8,
@@ -36,7 +37,7 @@ extern "C" {
     ) -> u32;
     fn apk_list_read(
         bytes: *const u8, length: usize, at: usize, running: u8, rules: u8,
-        rows: *mut u64, cells: usize, count: *mut usize, place: *mut usize, after: *mut u8,
+        rows: *mut u64, cells: usize, count: *mut usize, place: *mut usize, after: *mut u8, padding: *mut usize,
     ) -> u32;
     fn apk_list_length(
         rows: *const u64, cells: usize, count: usize, payload: *const u8, payload_length: usize,
@@ -106,10 +107,12 @@ fn set_32(value: u32) -> Option<u32> {
     Some(value).filter(|value| *value != BEFORE_32)
 }
 
-pub fn number_read(bytes: &[u8], at: usize, rules: u8) -> (u8, (Option<u32>, Option<usize>)) {
-    let (mut value, mut next) = (BEFORE_32, BEFORE);
-    let answer = unsafe { apk_number_read(bytes.as_ptr(), bytes.len(), at, rules, &mut value, &mut next) };
-    (answer as u8, (set_32(value), set(next)))
+/// The value, the place after and the padding.
+pub fn number_read(bytes: &[u8], at: usize, rules: u8) -> (u8, (Option<u32>, Option<usize>, Option<usize>)) {
+    let (mut value, mut next, mut padding) = (BEFORE_32, BEFORE, BEFORE);
+    let answer =
+        unsafe { apk_number_read(bytes.as_ptr(), bytes.len(), at, rules, &mut value, &mut next, &mut padding) };
+    (answer as u8, (set_32(value), set(next), set(padding)))
 }
 
 pub fn number_length(value: u32) -> usize {
@@ -122,10 +125,12 @@ pub fn number_write(value: u32, out: &mut [u8], at: usize) -> (u8, Option<usize>
     (answer as u8, set(next))
 }
 
-pub fn payload_read(bytes: &[u8], at: usize, rules: u8) -> (u8, (Option<usize>, Option<usize>)) {
-    let (mut start, mut found) = (BEFORE, BEFORE);
-    let answer = unsafe { apk_payload_read(bytes.as_ptr(), bytes.len(), at, rules, &mut start, &mut found) };
-    (answer as u8, (set(start), set(found)))
+/// The start, the length and the padding.
+pub fn payload_read(bytes: &[u8], at: usize, rules: u8) -> (u8, (Option<usize>, Option<usize>, Option<usize>)) {
+    let (mut start, mut found, mut padding) = (BEFORE, BEFORE, BEFORE);
+    let answer =
+        unsafe { apk_payload_read(bytes.as_ptr(), bytes.len(), at, rules, &mut start, &mut found, &mut padding) };
+    (answer as u8, (set(start), set(found), set(padding)))
 }
 
 pub fn payload_write(payload: &[u8], start: usize, length: usize, out: &mut [u8], at: usize) -> (u8, Option<usize>) {
@@ -259,13 +264,15 @@ pub fn bend_as_f64(raw: u16) -> (u8, u64) {
 /// What a row holds before a call. No event is this.
 const ROW: Row = [u64::MAX; WIDTH];
 
-/// The answer, and the row, the bytes used and the running status after.
-pub fn event_read(bytes: &[u8], at: usize, running: u8) -> (u8, (Option<Row>, usize, u8)) {
-    let (mut row, mut used, mut after) = (ROW, BEFORE, 0xFF);
+/// The answer, and the row, the bytes used, the running status after and the padding.
+pub fn event_read(bytes: &[u8], at: usize, running: u8) -> (u8, (Option<Row>, usize, u8, usize)) {
+    let (mut row, mut used, mut after, mut padding) = (ROW, BEFORE, 0xFF, BEFORE);
     let answer = unsafe {
-        apk_event_read(bytes.as_ptr(), bytes.len(), at, running, RULES, &mut row, &mut used, &mut after)
+        apk_event_read(
+            bytes.as_ptr(), bytes.len(), at, running, RULES, &mut row, &mut used, &mut after, &mut padding,
+        )
     };
-    (answer as u8, (Some(row).filter(|row| *row != ROW), used, after))
+    (answer as u8, (Some(row).filter(|row| *row != ROW), used, after, padding))
 }
 
 /// The answer, and the length and the running status after.
@@ -299,16 +306,18 @@ pub fn event_same(a: &Row, bytes_a: &[u8], b: &Row, bytes_b: &[u8]) -> (u8, u8) 
     (answer as u8, same)
 }
 
-/// The answer, and the count, the place and the running status there, which holds 0xFF before.
-pub fn list_read(bytes: &[u8], at: usize, running: u8, rows: &mut [u64]) -> (u8, (Option<usize>, Option<usize>, u8)) {
-    let (mut count, mut place, mut after) = (BEFORE, BEFORE, 0xFF);
+/// The count, the place, the running status there, which holds 0xFF before, and the padding.
+pub type ListRead = (Option<usize>, Option<usize>, u8, Option<usize>);
+
+pub fn list_read(bytes: &[u8], at: usize, running: u8, rows: &mut [u64]) -> (u8, ListRead) {
+    let (mut count, mut place, mut after, mut padding) = (BEFORE, BEFORE, 0xFF, BEFORE);
     let answer = unsafe {
         apk_list_read(
             bytes.as_ptr(), bytes.len(), at, running, RULES,
-            rows.as_mut_ptr(), rows.len(), &mut count, &mut place, &mut after,
+            rows.as_mut_ptr(), rows.len(), &mut count, &mut place, &mut after, &mut padding,
         )
     };
-    (answer as u8, (set(count), set(place), after))
+    (answer as u8, (set(count), set(place), after, set(padding)))
 }
 
 /// Rows, how many count, and the bytes that their payloads stand in.

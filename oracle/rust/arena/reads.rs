@@ -3,6 +3,7 @@
 use super::{
     events,
     kinds::{self, KINDS},
+    padding::{self, Padding, PADDED},
     port,
     random::Random,
     refusal,
@@ -23,23 +24,30 @@ const BEHIND: usize = 8;
 /// What is counted of lists, before the kinds of their events.
 pub const HOW: [&str; 3] = ["lists read to the end", "full lists", "lists read on behind a full one"];
 
-/// What the Rust read: why it stopped, how many cells its rows take, the place and the running status there.
+/// What the Rust read: why it stopped, how many cells its rows take, the place and the running status there; and the
+/// padding of those of its events that have some.
 pub struct Read {
     why: u8,
     cells: usize,
     place: usize,
     running: u8,
+    padded: Vec<Padding>,
 }
 
 impl Read {
-    /// Whether this is all of so many events, with this place and running status after them.
+    /// Whether this is all of so many events, with this place and running status after them, and no padding.
     pub fn is_whole(&self, count: usize, place: usize, running: u8) -> bool {
-        (self.why, self.cells, self.place, self.running) == (0, WIDTH * count, place, running)
+        (self.why, self.cells, self.place, self.running, self.padding()) == (0, WIDTH * count, place, running, 0)
+    }
+
+    /// The sum over its events.
+    fn padding(&self) -> usize {
+        self.padded.iter().map(|padding| padding.sum()).sum()
     }
 }
 
-/// The number, and why reading stopped; the count, the place and the running status; the cells.
-type Answer<'a> = (u8, (u8, (Option<usize>, Option<usize>, u8), Rows<'a>));
+/// The number, and why reading stopped; the count, the place, the running status and the padding; the cells.
+type Answer<'a> = (u8, (u8, port::ListRead, Rows<'a>));
 
 /// The cells that the Rust's rows fill, and those that the port does. Between two calls all hold `CELL`.
 pub struct Reads {
@@ -52,9 +60,10 @@ impl Reads {
         Reads { rust: vec![CELL; CELLS + MORE + BEHIND], port: vec![CELL; CELLS + MORE + BEHIND] }
     }
 
-    /// What is compared, with the answers that have to occur. Every end and every kind of event has to.
+    /// What is compared, with the answers that have to occur. Every end and every kind of event has to, and padding in
+    /// every place.
     pub fn entry(name: &'static str, due: &'static [u8]) -> Entry {
-        Entry::new(name, due).of_kinds(&HOW).of_kinds(&KINDS)
+        Entry::new(name, due).of_kinds(&HOW).of_kinds(&KINDS).of_kinds(&PADDED)
     }
 
     /// One string, list by list: what is full is read on behind it, each time in other cells.
@@ -98,9 +107,9 @@ impl Reads {
         let port = port::list_read(bytes, at, running, &mut self.port[..room]);
         let (why, set) = if room < read.cells {
             self.rust[..read.cells].iter_mut().for_each(|cell| *cell = CELL);
-            (20, (None, None, 0xFF))
+            (20, (None, None, 0xFF, None))
         } else {
-            (read.why, (Some(read.cells / WIDTH), Some(read.place), read.running))
+            (read.why, (Some(read.cells / WIDTH), Some(read.place), read.running, Some(read.padding())))
         };
         let number = |why: u8| if why == FULL { 0 } else { why };
         let whole = room + BEHIND;
@@ -132,6 +141,7 @@ fn count(entry: &mut Entry, read: &Read, rows: &[u64]) {
     for row in rows[..read.cells].chunks_exact(WIDTH) {
         entry.of_kind(HOW.len() + kinds::of(row));
     }
+    read.padded.iter().for_each(|padding| padding.count(entry, HOW.len() + KINDS.len()));
 }
 
 /// Shows a smaller string that has the same two answers and still differs: from its first byte on, if it can be.
@@ -154,13 +164,13 @@ fn smaller(entry: &mut Entry, bytes: &[u8], at: usize, running: u8, room: usize)
 }
 
 /// Event by event, up to as many as a list holds, into the first cells. A refusal leaves the place and the running
-/// status before it. The Rust takes any running status: one that is none is refused here, by 1.
+/// status before it, and adds no padding. The Rust takes any running status: one that is none is refused here, by 1.
 fn rust_reads(bytes: &[u8], at: usize, running: u8, rows: &mut [u64]) -> Read {
     let mut left = bytes.get(at..).unwrap_or(&[]);
-    let (whole, mut why, mut cells) = (left.len(), 0, 0);
+    let (whole, mut why, mut cells, mut padded) = (left.len(), 0, 0, Vec::new());
     let mut status = Some(running).filter(|running| *running != 0);
     if running != 0 && !(0x80..=0xEF).contains(&running) {
-        return Read { why: 1, cells, place: at, running };
+        return Read { why: 1, cells, place: at, running, padded };
     }
     while !left.is_empty() {
         if cells == CELLS {
@@ -172,6 +182,7 @@ fn rust_reads(bytes: &[u8], at: usize, running: u8, rows: &mut [u64]) -> Read {
             Ok(event) => {
                 rows[cells..cells + WIDTH].copy_from_slice(&events::row(&event, bytes));
                 cells += WIDTH;
+                padded.extend(Some(padding::of_event(before.0)).filter(|padding| padding.sum() > 0));
             }
             Err(error) => {
                 why = refusal::of(&error);
@@ -181,7 +192,7 @@ fn rust_reads(bytes: &[u8], at: usize, running: u8, rows: &mut [u64]) -> Read {
             }
         }
     }
-    Read { why, cells, place: at + (whole - left.len()), running: status.unwrap_or(0) }
+    Read { why, cells, place: at + (whole - left.len()), running: status.unwrap_or(0), padded }
 }
 
 fn told(bytes: &[u8], at: usize, running: u8, room: usize) -> String {

@@ -13,10 +13,8 @@ pub struct Entry {
     due: &'static [u8],
     /// How often the Rust gave each answer: 0 is accepted.
     answers: [u64; NUMBERS],
-    /// How often each kind was seen, where kinds are counted.
-    kinds: Vec<(&'static str, u64)>,
-    /// Whether each of them has to occur too.
-    kinds_due: bool,
+    /// How often each kind was seen, where kinds are counted, and whether it has to occur too.
+    kinds: Vec<(&'static str, u64, bool)>,
     /// By the Rust's answer and the port's: what differs.
     differences: BTreeMap<(u8, u8), Difference>,
 }
@@ -30,19 +28,19 @@ struct Difference {
 
 impl Entry {
     pub fn new(name: &'static str, due: &'static [u8]) -> Entry {
-        let (kinds, kinds_due) = (Vec::new(), false);
-        Entry { name, due, answers: [0; NUMBERS], kinds, kinds_due, differences: BTreeMap::new() }
+        Entry { name, due, answers: [0; NUMBERS], kinds: Vec::new(), differences: BTreeMap::new() }
     }
 
     /// With more kinds that are counted.
     pub fn counting(mut self, kinds: &[&'static str]) -> Entry {
-        self.kinds.extend(kinds.iter().map(|kind| (*kind, 0)));
+        self.kinds.extend(kinds.iter().map(|kind| (*kind, 0, false)));
         self
     }
 
-    /// With more kinds that are counted, where every kind has to occur.
-    pub fn of_kinds(self, kinds: &[&'static str]) -> Entry {
-        Entry { kinds_due: true, ..self.counting(kinds) }
+    /// With more kinds that are counted, each of which has to occur.
+    pub fn of_kinds(mut self, kinds: &[&'static str]) -> Entry {
+        self.kinds.extend(kinds.iter().map(|kind| (*kind, 0, true)));
+        self
     }
 
     /// Counts one of a kind, by its index.
@@ -103,7 +101,7 @@ impl Entry {
         }
         println!();
         let seen = self.kinds.iter().filter(|kind| kind.1 > 0);
-        let kinds: Vec<_> = seen.map(|(kind, count)| format!("{} {}", kind, grouped(*count))).collect();
+        let kinds: Vec<_> = seen.map(|(kind, count, _)| format!("{} {}", kind, grouped(*count))).collect();
         kinds.chunks(6).for_each(|some| println!("    {}", some.join("; ")));
         for ((rust, port), it) in &self.differences {
             println!("    DIFFERS {} times, the Rust {}, the port {}; smallest input:", grouped(it.count), rust, port);
@@ -111,7 +109,7 @@ impl Entry {
         }
         let missed: Vec<_> = self.due.iter().filter(|number| self.answers[**number as usize] == 0).collect();
         missed.iter().for_each(|number| println!("    NEVER OCCURRED: {}", number));
-        let unseen: Vec<_> = self.kinds.iter().filter(|kind| self.kinds_due && kind.1 == 0).collect();
+        let unseen: Vec<_> = self.kinds.iter().filter(|kind| kind.2 && kind.1 == 0).collect();
         unseen.iter().for_each(|kind| println!("    NEVER OCCURRED: {}", kind.0));
         self.differences.is_empty() && missed.is_empty() && unseen.is_empty()
     }

@@ -5,7 +5,7 @@
 //! of a lent buffer. Nothing here is random, so that the lines are the same from run to run.
 
 use super::{
-    events, kinds, refusal,
+    events, kinds, padding, refusal,
     sizes::{Row, CAPACITY, WIDTH},
 };
 use crate::{
@@ -117,21 +117,24 @@ const OF_8: [(u64, Asked); 3] = [(2, asked!(u2 of u8)), (4, asked!(u4 of u8)), (
 const OF_16: [(u64, Asked); 2] = [(14, asked!(u14 of u16)), (15, asked!(u15 of u16))];
 const OF_32: [(u64, Asked); 2] = [(24, asked!(u24 of u32)), (28, asked!(u28 of u32))];
 
-/// What was seen: refusals by their number, 0 for what was accepted, and kinds by the number that rows have.
+/// What was seen: refusals by their number, 0 for what was accepted, kinds by the number that rows have, and paddings,
+/// each with the letter of its line.
 struct Lines {
     numbers: BTreeSet<u64>,
     kinds: BTreeSet<u64>,
+    paddings: BTreeSet<(char, u64)>,
 }
 
 /// Prints the lines of this mode. What does not depend on the mode is printed by the lenient build alone. Answers the
 /// exit status: 1 where something that is to be covered never occurred.
 pub fn print() -> i32 {
-    let mut it = Lines { numbers: BTreeSet::new(), kinds: BTreeSet::new() };
+    let mut it = Lines { numbers: BTreeSet::new(), kinds: BTreeSet::new(), paddings: BTreeSet::new() };
     it.numbers_read();
     it.payloads_read();
     it.channel_events();
     it.metas();
     it.every_cut();
+    it.every_padding();
     it.lists_read();
     if !STRICT {
         it.numbers_written();
@@ -155,8 +158,15 @@ pub fn print() -> i32 {
     );
     let missed = numbers.iter().filter(|number| !it.numbers.contains(*number)).count();
     let unseen = kinds.filter(|kind| !it.kinds.contains(kind)).count();
-    if missed + unseen > 0 {
-        eprintln!("vectors, {}: {} refusals and {} kinds never occurred", MODE, missed, unseen);
+    // a number has a padding of up to 3, an event of up to 6, and a list of more
+    let paddings = [('n', 3), ('p', 3), ('e', 6), ('l', 7)];
+    let is_seen = |letter: char, least: u64| it.paddings.range((letter, least)..=(letter, u64::MAX)).next().is_some();
+    let unpadded = paddings.iter().filter(|(letter, least)| !is_seen(*letter, *least)).count();
+    if missed + unseen + unpadded > 0 {
+        eprintln!(
+            "vectors, {}: {} refusals, {} kinds and {} paddings never occurred",
+            MODE, missed, unseen, unpadded
+        );
         return 1;
     }
     0
@@ -299,7 +309,23 @@ impl Lines {
         }
     }
 
-    /// Lists that are whole, cut at every byte and damaged at every byte; lists around 128 events.
+    /// Every event of the table with a delta of each length that is longer than its own; where it has a payload, the
+    /// same of the length, alone and with as much padding in the delta. Those that are one byte longer, cut too.
+    fn every_padding(&mut self) {
+        read_group("padded events of every kind read");
+        for bytes in &EVENTS {
+            for more in 1..4 {
+                for event in padded(bytes, more) {
+                    self.event_read(&event, 0, 0x00);
+                    if more == 1 {
+                        self.event_read(&event[..event.len() - 1], 0, 0x00);
+                    }
+                }
+            }
+        }
+    }
+
+    /// Lists that are whole, cut at every byte and damaged at every byte; lists around 128 events; padded ones.
     fn lists_read(&mut self) {
         read_group("lists read");
         let mixed = [EVENTS[2], EVENTS[15], &TWO, EVENTS[37], EVENTS[9]].concat();
@@ -319,6 +345,12 @@ impl Lines {
         self.list_read(&[&programs(CAPACITY)[..], &[0x00, 0xF8]].concat(), 0, 0x00);
         self.list_read(&[&programs(127)[..], &[0x00, 0xF8]].concat(), 0, 0x00);
         self.list_read(&programs(300), 257, 0xC0);
+        for more in 1..4 {
+            let some = EVENTS.iter().skip(more).step_by(9).flat_map(|bytes| padded(bytes, more));
+            let some: Vec<u8> = some.flatten().collect();
+            self.list_read(&some, 0, 0x00);
+            self.list_read(&[&some[..], &[0x80, 0x00, 0xF8]].concat(), 0, 0x00);
+        }
     }
 
     /// Numbers around the ends of each length, in rooms around theirs, at two places and past the end.
@@ -531,8 +563,11 @@ impl Lines {
         let whole = bytes.get(at..).unwrap_or(&[]);
         let mut rest = whole;
         let answer = match u28::read_u7(&mut rest) {
-            Ok(number) => [0, number.as_int() as u64, (at + (whole.len() - rest.len())) as u64],
-            Err(kind) => [refusal::of_kind(kind) as u64, HELD, HELD],
+            Ok(number) => {
+                let padding = self.padding('n', padding::of_number(whole));
+                [0, number.as_int() as u64, (at + (whole.len() - rest.len())) as u64, padding]
+            }
+            Err(kind) => [refusal::of_kind(kind) as u64, HELD, HELD, HELD],
         };
         self.numbers.insert(answer[0]);
         line('n', &[STRICT as u64, at as u64], bytes, &answer);
@@ -543,37 +578,48 @@ impl Lines {
         let whole = bytes.get(at..).unwrap_or(&[]);
         let mut rest = whole;
         let answer = match read_varlen_slice(&mut rest) {
-            Ok(slice) => [0, (at + (whole.len() - rest.len()) - slice.len()) as u64, slice.len() as u64],
-            Err(error) => [refusal::of(&error) as u64, HELD, HELD],
+            Ok(slice) => {
+                let padding = self.padding('p', padding::of_number(whole));
+                [0, (at + (whole.len() - rest.len()) - slice.len()) as u64, slice.len() as u64, padding]
+            }
+            Err(error) => [refusal::of(&error) as u64, HELD, HELD, HELD],
         };
         self.numbers.insert(answer[0]);
         line('p', &[STRICT as u64, at as u64], bytes, &answer);
     }
 
-    /// The Rust takes any running status: one that is none is refused here, by 1.
+    /// A padding that was seen.
+    fn padding(&mut self, letter: char, padding: usize) -> u64 {
+        self.paddings.insert((letter, padding as u64));
+        padding as u64
+    }
+
+    /// The Rust takes any running status: one that is none is refused here, by 1. What is refused has padding 0.
     fn event_read(&mut self, bytes: &[u8], at: usize, running: u8) {
         let mut left = bytes.get(at..).unwrap_or(&[]);
         let (whole, mut status) = (left.len(), option(running));
-        let mut answer = vec![1, 0, running as u64];
+        let mut answer = vec![1, 0, running as u64, 0];
         if is_running(running) {
             answer = match TrackEvent::read(&mut left, &mut status) {
                 Ok(event) => {
                     let row = events::row(&event, bytes);
                     self.kinds.insert(row[1]);
                     let used = (whole - left.len()) as u64;
-                    [&[0, used, status.unwrap_or(0) as u64], &row[..]].concat()
+                    let padding = self.padding('e', padding::of_event(&bytes[at..]).sum());
+                    [&[0, used, status.unwrap_or(0) as u64, padding], &row[..]].concat()
                 }
-                Err(error) => vec![refusal::of(&error) as u64, 0, status.unwrap_or(0) as u64],
+                Err(error) => vec![refusal::of(&error) as u64, 0, status.unwrap_or(0) as u64, 0],
             };
         }
         self.numbers.insert(answer[0]);
         line('e', &[STRICT as u64, running as u64, at as u64], bytes, &answer);
     }
 
-    /// Event by event. A refusal leaves the place and the running status before it.
+    /// Event by event. A refusal leaves the place and the running status before it, and adds no padding.
     fn list_read(&mut self, bytes: &[u8], at: usize, running: u8) {
         let mut left = bytes.get(at..).unwrap_or(&[]);
         let (whole, mut status, mut why, mut rows) = (left.len(), option(running), 0, Vec::new());
+        let mut padding = 0;
         while !left.is_empty() || !is_running(running) {
             if !is_running(running) {
                 why = 1;
@@ -585,7 +631,10 @@ impl Lines {
             }
             let before = (left, status);
             match TrackEvent::read(&mut left, &mut status) {
-                Ok(event) => rows.extend_from_slice(&events::row(&event, bytes)),
+                Ok(event) => {
+                    rows.extend_from_slice(&events::row(&event, bytes));
+                    padding += padding::of_event(before.0).sum();
+                }
                 Err(error) => {
                     why = refusal::of(&error) as u64;
                     left = before.0;
@@ -596,7 +645,8 @@ impl Lines {
         }
         self.numbers.insert(why);
         let place = (at + (whole - left.len())) as u64;
-        let mut answer = vec![why, (rows.len() / WIDTH) as u64, place, status.unwrap_or(0) as u64];
+        let padding = self.padding('l', padding);
+        let mut answer = vec![why, (rows.len() / WIDTH) as u64, place, status.unwrap_or(0) as u64, padding];
         answer.extend(rows);
         line('l', &[STRICT as u64, running as u64, at as u64], bytes, &answer);
     }
@@ -836,6 +886,23 @@ fn load(length: usize) -> Vec<u8> {
 
 fn meta(kind: u8, load: &[u8]) -> Vec<u8> {
     [&[0x00, 0xFF, kind, load.len() as u8], load].concat()
+}
+
+/// An event with so many bytes 80 in front of its delta, of its payload's length, and of both: where four bytes are
+/// enough for the delta, and where there is a length, which is one byte in the table.
+fn padded(event: &[u8], more: usize) -> Vec<Vec<u8>> {
+    let delta = event.iter().take_while(|byte| **byte > 0x7F).count() + 1;
+    let length = match event[delta] {
+        0xF0 | 0xF7 => Some(delta + 1),
+        0xFF => Some(delta + 2),
+        _ => None,
+    };
+    let filler = vec![0x80; more];
+    let front = Some([&filler[..], event].concat()).filter(|_| delta + more <= 4);
+    let inside = length.map(|at| [&event[..at], &filler, &event[at..]].concat());
+    let both = inside.iter().filter(|_| front.is_some()).map(|inside| [&filler[..], inside].concat());
+    let both: Vec<_> = both.collect();
+    front.iter().chain(&inside).chain(&both).cloned().collect()
 }
 
 /// So many program changes, all but the first under running status.

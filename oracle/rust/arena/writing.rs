@@ -245,8 +245,9 @@ impl Writing {
             if kinds::is_loaded(&row) {
                 row[8] = next as u64 - row[9];
             }
+            // what is written has no padding
             let read = port::event_read(&self.port_out[..next], at, given.running);
-            self.back.compare((0, (Some(row), next - at, after)), read, room, || told(given));
+            self.back.compare((0, (Some(row), next - at, after, 0)), read, room, || told(given));
         }
         self.rust_out[..whole].copy_from_slice(&self.lent[..whole]);
         self.port_out[..whole].copy_from_slice(&self.lent[..whole]);

@@ -13,7 +13,8 @@ kind-requires : tie.Need-kind-requires
 kind-requires c κs =
     let p = c .before .before .before .before in
     let a = p .before .before .before .before .args in
-    (event-body (rulesOf (a .rules)) (a .running .status) (now (a .raw)) (a .at) (sym (p .before .before .is-valid .ensures) ∙ p .before .if1 .taken) (sym (p .read-u7 .ensures) ∙ ap numberRead (c .before .before .number .given .1)) .1, sym (p .before .before .is-valid .ensures) ∙ p .before .if1 .taken)
+    let b = event-body (rulesOf (a .rules)) (a .running .status) (now (a .raw)) (a .at) (sym (p .before .before .is-valid .ensures) ∙ p .before .if1 .taken) (sym (p .read-u7 .ensures) ∙ ap numberRead (c .before .before .number .given .1)) in
+    (b .1, b .2, sym (p .before .before .is-valid .ensures) ∙ p .before .if1 .taken)
 
 returns : tie.Need-returns
 returns c =

@@ -7,6 +7,7 @@ use lib.ListN.{length}
 use Rattle.smf.specs.Wire.{dataLength}
 use Rattle.smf.proofs.Reading.{channel-length, data-some, data-short, data-top, data-one, data-more, data-second-top, data-two}
 use Rattle.base.specs.Rules.{rulesOf}
+use Rattle.event.specs.Begun.{deltaOf}
 use borrow.Author.Needs.{needs}
 use Rattle.event.proofs.read.channel.Statement.{statement}
 use Rattle.event.proofs.read.channel.Tie as tie
@@ -20,13 +21,13 @@ more : (c : tie.Else3) → c .before .before .before .before .before .before .be
 more c =
     let p = c .before .before .before .before in
     let a = p .before .before .before .args in
-    data-more (rulesOf (a .rules)) (now (a .raw)) (a .begun .start) (a .at) (a .status) (a .begun .delta .0) (p .before .before .before .pre .0) (omega (arith, len (p .before), p .bytes-from .ensures, c .before .before .before .if1 .left)) (λ e. c .if3 .left (len (p .before) ∙ e)) (c .before .if2 .left)
+    data-more (rulesOf (a .rules)) (now (a .raw)) (a .begun .start) (a .at) (a .status) (deltaOf (a .begun)) (p .before .before .before .pre .0) (omega (arith, len (p .before), p .bytes-from .ensures, c .before .before .before .if1 .left)) (λ e. c .if3 .left (len (p .before) ∙ e)) (c .before .if2 .left)
 
 returns : tie.Need-returns
 returns c =
     let a = c .before .before .before .before .before .args in
     c .refused .ensures
-    ∙ data-short (rulesOf (a .rules)) (now (a .raw)) (a .begun .start) (a .at) (a .status) (a .begun .delta .0) (c .before .before .before .before .before .pre .0) (omega (arith, len (c .before .before .before), c .before .before .bytes-from .ensures, c .before .if1 .taken))
+    ∙ data-short (rulesOf (a .rules)) (now (a .raw)) (a .begun .start) (a .at) (a .status) (deltaOf (a .begun)) (c .before .before .before .before .before .pre .0) (omega (arith, len (c .before .before .before), c .before .before .bytes-from .ensures, c .before .if1 .taken))
 
 shared-slice-read-first : tie.Need-shared-slice-read-first
 shared-slice-read-first c = omega (arith, len (c .before .before .before), c .before .before .bytes-from .ensures, data-some (c .before .before .before .before .before .args .status))
@@ -35,14 +36,14 @@ returns-2 : tie.Need-returns-2
 returns-2 c =
     let a = c .before .before .before .before .before .before .before .args in
     c .refused2 .ensures
-    ∙ data-top (rulesOf (a .rules)) (now (a .raw)) (a .begun .start) (a .at) (a .status) (a .begun .delta .0) (c .before .before .before .before .before .before .before .pre .0) (omega (arith, len (c .before .before .before .before .before), c .before .before .before .before .bytes-from .ensures, c .before .before .before .if1 .left)) (c .before .if2 .taken)
+    ∙ data-top (rulesOf (a .rules)) (now (a .raw)) (a .begun .start) (a .at) (a .status) (deltaOf (a .begun)) (c .before .before .before .before .before .before .before .pre .0) (omega (arith, len (c .before .before .before .before .before), c .before .before .before .before .bytes-from .ensures, c .before .before .before .if1 .left)) (c .before .if2 .taken)
 
 returns-3 : tie.Need-returns-3
 returns-3 c =
     let p = c .before .before .before .before .before in
     let a = p .before .before .before .before .args in
     c .event .ensures
-    ∙ rw (c .before .read .ensures) (data-one (rulesOf (a .rules)) (now (a .raw)) (a .begun .start) (a .at) (a .status) (a .begun .delta .0) (p .before .before .before .before .pre .0) 0 (omega (arith, len (p .before .before), p .before .bytes-from .ensures, p .if1 .left)) (sym (len (p .before .before)) ∙ c .before .before .if3 .taken) (c .before .before .before .if2 .left))
+    ∙ rw (c .before .read .ensures) (data-one (rulesOf (a .rules)) (now (a .raw)) (a .begun .start) (a .at) (a .status) (deltaOf (a .begun)) (p .before .before .before .before .pre .0) 0 (omega (arith, len (p .before .before), p .before .bytes-from .ensures, p .if1 .left)) (sym (len (p .before .before)) ∙ c .before .before .if3 .taken) (c .before .before .before .if2 .left))
 
 add-second : tie.Need-add-second
 add-second c = omega (arith, more c)
@@ -55,7 +56,7 @@ returns-4 c =
     let p = c .before .before .before .before .before .before in
     let a = p .before .before .before .before .args in
     c .refused3 .ensures
-    ∙ data-second-top (rulesOf (a .rules)) (now (a .raw)) (a .begun .start) (a .at) (a .status) (a .begun .delta .0) (p .before .before .before .before .pre .0) (omega (arith, len (p .before .before), p .before .bytes-from .ensures, p .if1 .left)) (λ e. c .before .before .before .if3 .left (len (p .before .before) ∙ e)) (c .before .before .before .before .if2 .left) (c .before .if4 .taken)
+    ∙ data-second-top (rulesOf (a .rules)) (now (a .raw)) (a .begun .start) (a .at) (a .status) (deltaOf (a .begun)) (p .before .before .before .before .pre .0) (omega (arith, len (p .before .before), p .before .bytes-from .ensures, p .if1 .left)) (λ e. c .before .before .before .if3 .left (len (p .before .before) ∙ e)) (c .before .before .before .before .if2 .left) (c .before .if4 .taken)
 
 add-event-2 : tie.Need-add-event-2
 add-event-2 c = omega (arith, more (c .before .before .before))
@@ -65,7 +66,7 @@ returns-5 c =
     let p = c .before .before .before .before .before .before .before in
     let a = p .before .before .before .before .args in
     c .event2 .ensures
-    ∙ rw (c .before .read2 .ensures) (data-two (rulesOf (a .rules)) (now (a .raw)) (a .begun .start) (a .at) (a .status) (a .begun .delta .0) (p .before .before .before .before .pre .0) (omega (arith, len (p .before .before), p .before .bytes-from .ensures, p .if1 .left)) (λ e. c .before .before .before .before .if3 .left (len (p .before .before) ∙ e)) (c .before .before .before .before .before .if2 .left) (c .before .before .if4 .left))
+    ∙ rw (c .before .read2 .ensures) (data-two (rulesOf (a .rules)) (now (a .raw)) (a .begun .start) (a .at) (a .status) (deltaOf (a .begun)) (p .before .before .before .before .pre .0) (omega (arith, len (p .before .before), p .before .bytes-from .ensures, p .if1 .left)) (λ e. c .before .before .before .before .if3 .left (len (p .before .before) ∙ e)) (c .before .before .before .before .before .if2 .left) (c .before .before .if4 .left))
 
 pub channel-spec : {M : Type 1} → statement M
 channel-spec =

@@ -6,10 +6,10 @@ use Rattle.loader.proofs.numbers.apk_number_read.Tie as tie
 
 returns : tie.Need-returns
 returns c =
-    simp (← c .number .ensures, c .before .before .refusal .given .1, ← c .before .before .before .before .read-u7 .ensures, ← c .before .before .before .before .before .rules .ensures) (refl, (refl, refl))
+    simp (← c .number .ensures, c .before .before .refusal .given .1, ← c .before .before .before .before .read-u7 .ensures, ← c .before .before .before .before .before .rules .ensures) (refl, (refl, (refl, refl)))
 
 returns-2 : tie.Need-returns-2
-returns-2 c = simp (c .before .found .given .1, ← c .before .before .before .read-u7 .ensures, ← c .before .before .before .before .rules .ensures) (refl, (refl, refl))
+returns-2 c = simp (c .before .found .given .1, ← c .before .before .before .read-u7 .ensures, ← c .before .before .before .before .rules .ensures) (refl, (refl, (refl, refl)))
 
 pub apk-number-read-spec : {M : Type 1} → statement M
 apk-number-read-spec =

@@ -16,7 +16,7 @@ returns c =
     let l = listGiven (a .bits) (a .running) (a .bytes .now) (a .at) in
     let e = rw (r .before .before .rules .ensures, f .1) at (r .read-rows .ensures) in
     let there = rows-refused l (sheetPut l (a .rows .now) .answer) (numberOf (f .0 .0)) (ap (λ (s : SheetRead). s .answer) e) in
-    rw (← there) (c .number .ensures, (ap (λ (s : SheetRead). s .cells) e, (refl, (refl, refl))))
+    rw (← there) (c .number .ensures, (ap (λ (s : SheetRead). s .cells) e, (refl, (refl, (refl, refl)))))
 
 returns-2 : tie.Need-returns-2
 returns-2 c =
@@ -27,7 +27,7 @@ returns-2 c =
     let e = rw (r .before .before .rules .ensures, f .1) at (r .read-rows .ensures) in
     let there = rows-read l (sheetPut l (a .rows .now) .answer) (rowsRead (f .0 .0)) (ap (λ (s : SheetRead). s .answer) e) in
     rw (← there .1)
-    (c .stop-number .ensures ∙ ap (λ (x : SheetAt). stopNumber (x .stop)) (there .2), (ap (λ (s : SheetRead). s .cells) e, (ap (λ (x : SheetAt). x .count) (there .2), (ap (λ (x : SheetAt). x .place) (there .2), ap (λ (x : SheetAt). x .running) (there .2)))))
+    (c .stop-number .ensures ∙ ap (λ (x : SheetAt). stopNumber (x .stop)) (there .2), (ap (λ (s : SheetRead). s .cells) e, (ap (λ (x : SheetAt). x .count) (there .2), (ap (λ (x : SheetAt). x .place) (there .2), (ap (λ (x : SheetAt). x .running) (there .2), ap (λ (x : SheetAt). x .padding) (there .2))))))
 
 pub apk-list-read-spec : {M : Type 1} → statement M
 apk-list-read-spec =

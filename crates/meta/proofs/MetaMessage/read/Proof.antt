@@ -8,8 +8,7 @@ use Rattle.smf.specs.Place.{payloadAt}
 use Rattle.smf.proofs.Answer.{said-of}
 use Rattle.smf.proofs.MetaAt.{PayloadReached, payload-reached, meta-missing, meta-refused, meta-called}
 use Rattle.base.specs.Rules.{rulesOf}
-use Rattle.number.specs.Payload.{sliceRead}
-use Rattle.meta.specs.Meta.{spanOf}
+use Rattle.number.specs.Payload.{payloadOf, sliceRead}
 use borrow.Author.Needs.{needs}
 use Rattle.meta.proofs.MetaMessage.read.Statement.{statement}
 use Rattle.meta.proofs.MetaMessage.read.Tie as tie
@@ -20,12 +19,12 @@ returns c = sym (meta-missing (rulesOf (c .before .before .args .rules)) (now (c
 -- what the reader of the payload found
 sliced : (c : tie.After-known-told2)
     → payloadAt (rulesOf (c .before .before .before .before .before .before .before .args .rules)) (now (c .before .before .before .before .before .before .before .args .raw)) (c .before .before .before .before .before .before .before .args .at + 1)
-    ≡ gives (spanOf (c .before .load .given .0 .0 .range))
+    ≡ gives (payloadOf (c .before .load .given .0 .0))
 sliced c = sym (c .before .before .before .read-varlen-slice .ensures) ∙ ap sliceRead (c .before .load .given .1)
 
 named-requires : tie.Need-named-requires
 named-requires c κs =
-    let p = c .before in
+    let p = c in
     let a = p .before .before .before .before .before .before .before .args in
     said-of (PayloadReached (rulesOf (a .rules)) (now (a .raw)) (a .at + 1)) (payload-reached (rulesOf (a .rules)) (now (a .raw)) (a .at + 1) (omega arith)) (sliced p) .inside
 
@@ -37,7 +36,7 @@ returns-2 c =
 
 returns-3 : tie.Need-returns-3
 returns-3 c =
-    let p = c .before .before in
+    let p = c .before in
     let i = p .before .before .before .before .before in
     let a = i .before .before .args in
     c .named .ensures ∙ sym (meta-called (rulesOf (a .rules)) (now (a .raw)) (a .at) (i .if1 .left) (sliced p))

@@ -1,8 +1,9 @@
 -- `u28::read_u7` meets its contract. The invariant: the walk from here gives what the walk from the start gives.
+use mathlib.Core.Logic.{⊎-elim}
 use native.Mathlib.Omega.{arith}
 use borrow.Author.Needs.{needs}
 use Rattle.base.specs.Rules.{rulesOf}
-use Rattle.number.proofs.NumberReads.{Walking, begun, room-more, cut-strict, cut-lenient, last, fourth-strict, fourth-lenient, more}
+use Rattle.number.proofs.NumberReads.{Walking, begun, onward, room-more, cut-strict, cut-lenient, last, fourth-strict, fourth-lenient, more}
 use Rattle.number.proofs.u28.read_u7.Statement.{statement}
 use Rattle.number.proofs.u28.read_u7.Tie as tie
 
@@ -31,15 +32,20 @@ returns-2 c =
 loop-again : tie.Need-loop-again Inv-loop μ-loop
 loop-again c = rw (c .before .before .wide .ensures) (more (c .before .before .before .before .before .loop .inv) (c .before .before .before .before .if1 .left) (c .before .if3 .left) (c .if4 .left))
 
+-- what the loop is left with stands behind the first place: at the end of the bytes, behind a last byte, or behind a fourth
+sub-padding : tie.Need-sub-padding Inv-loop μ-loop
+sub-padding c =
+    let h = onward (c .before .before .loop .inv) in
+    ⊎-elim (λ w. omega (arith, w .3)) (⊎-elim (λ w. omega (arith, w .5)) (λ w. omega (arith, w .7))) (c .before .if1 .came)
+
 returns-3 : tie.Need-returns-3 Inv-loop μ-loop
-returns-3 c = cut-lenient (c .before .before .loop .inv) (c .before .if1 .taken) (c .if2 .left)
-
-returns-4 : tie.Need-returns-4 Inv-loop μ-loop
-returns-4 c = rw (c .before .wide .ensures) (last (c .before .before .before .before .loop .inv) (c .before .before .before .if1 .left) (c .if3 .taken))
-
-returns-5 : tie.Need-returns-5 Inv-loop μ-loop
-returns-5 c =
-    rw (c .before .before .before .wide .ensures) (fourth-lenient (c .before .before .before .before .before .before .loop .inv) (c .before .before .before .before .before .if1 .left) (c .before .before .if3 .left) (c .before .if4 .taken) (c .if5 .left))
+returns-3 c =
+    let l = c .before .before .before .loop .inv in
+    rw (c .padding .ensures)
+    (⊎-elim (λ w. rw (w .3, w .5) (cut-lenient l (w .0 .taken) (w .1 .left)))
+    (⊎-elim (λ w. rw (w .5, w .7, w .2 .ensures) (last l (w .0 .left) (w .3 .taken)))
+    (λ w. rw (w .7, w .9, w .2 .ensures) (fourth-lenient l (w .0 .left) (w .3 .left) (w .4 .taken) (w .5 .left))))
+    (c .before .before .if1 .came))
 
 pub read-u7-spec : {M : Type 1} → statement M
 read-u7-spec =
@@ -58,6 +64,6 @@ read-u7-spec =
     returns-2
     (λ c. search needs)
     loop-again
-    returns-3
-    returns-4
-    returns-5)
+    sub-padding
+    (λ c κs. search needs)
+    returns-3)

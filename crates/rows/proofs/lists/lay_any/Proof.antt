@@ -45,7 +45,7 @@ returns-2 c =
     let n = s .before .before in
     let a = n .before .before .before .args in
     let put = p .put-row .ensures ∙ ap (λ (x : List ℕ). over x (now (a .rows)) (a .cursor .count * width)) (p .before .event-row .ensures) in
-    ap (λ (l : List ℕ). record { onward = goes (readerOf (s .step .given .0 .0 .cursor)); cells = l }) put
+    ap (λ (l : List ℕ). record { onward = goes (s .step .given .0 .0 .padding) (readerOf (s .step .given .0 .0 .cursor)); cells = l }) put
     ∙ ap (λ (m : smf.Next). laidNext m (a .cursor .count) (now (a .rows))) (sym (ap nextOf (s .step .given .1)) ∙ n .next .ensures)
 
 pub lay-any-spec : {M : Type 1} → statement M

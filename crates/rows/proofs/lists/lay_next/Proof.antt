@@ -34,8 +34,8 @@ shared-slice-read-short-row c = found (c .before .before .before) .there
 short-row-requires : tie.Need-short-row-requires
 short-row-requires c κs = let f = found (c .before .before .before) in (f .channel .0, f .channel .1, f .single)
 
-add-t18 : tie.Need-add-t18
-add-t18 c =
+add-t19 : tie.Need-add-t19
+add-t19 c =
     let f = c .before .before .before .before .before .before .before in
     let a = f .before .before .before .before .before .args in
     omega (arith, short-within (rulesOf (a .rules)) capacity (found f) (a .cursor .count))
@@ -48,7 +48,7 @@ returns-3 c =
     let a = f .before .before .before .before .before .args in
     let r = f .before .short-at .result in
     let put = p .put-row .ensures ∙ ap (λ (x : List ℕ). over x (now (a .rows)) (a .cursor .count * width)) (p .before .short-row .ensures) in
-    ap (λ (l : List ℕ). record { onward = goes (record { place = a .cursor .place + r .used; running = r .status; count = a .cursor .count + 1 }); cells = l }) put
+    ap (λ (l : List ℕ). record { onward = goes 0 (record { place = a .cursor .place + r .used; running = r .status; count = a .cursor .count + 1 }); cells = l }) put
     ∙ ap (λ (m : smf.Next). laidNext m (a .cursor .count) (now (a .rows))) (sym (short-next (rulesOf (a .rules)) capacity (found f) (a .cursor .count) (omega (arith, g .if2 .left))))
 
 pub lay-next-spec : {M : Type 1} → statement M
@@ -64,7 +64,7 @@ lay-next-spec =
     shared-slice-read-short-row
     short-row-requires
     (λ c κs. search needs)
-    add-t18
+    add-t19
     (λ c. search needs)
     (λ c. search needs)
     returns-3)
