@@ -1,4 +1,5 @@
-/* Apkarewe: reading and writing the events of MIDI tracks, and which of their notes still sound, for C and C++.
+/* Apkarewe: reading and writing the events of MIDI tracks, which of their notes still sound, and banks of tracks, for C
+ * and C++.
  *
  * To build. `tools/native apkarewe.o` proves the entries and writes them as one object file for the machine at hand,
  * x86-64 or aarch64; link it with your program, gcc -Iinclude program.c apkarewe.o. Only 64-bit little-endian machines:
@@ -7,14 +8,16 @@
  *
  * What it needs. No heap, no files, nothing of libc but memcpy, memmove and memset. Nothing is kept between calls, so
  * that calls from several threads do not meet. The stack, read off the machine code for x86-64 by tools/stack: 19.7 KB
- * for apk_sounding_silence, 16.7 KB for apk_sounding_after, 10.6 KB for apk_list_read, 4.4 KB for apk_sounding_counts,
- * under half a KB for each of the rest, beside what memcpy and its kind take.
+ * for apk_sounding_silence, 16.7 KB for apk_sounding_after, 11.1 KB for apk_bank_list, 10.6 KB for apk_list_read,
+ * 4.4 KB for apk_sounding_counts, 1.0 KB for apk_bank_track, 0.7 KB for apk_bank_write, under half a KB for each of the
+ * rest, beside what memcpy and its kind take.
  *
  * What an entry answers. A uint8_t: 0 where it accepts, else the number of a refusal (enum apk_answer). An entry that
  * refuses nothing answers its value, or nothing where it only fills what it is lent. After a refusal every value and
  * every byte that was lent is as it came, unless the entry says otherwise.
  *
- * Pointers. A slice is a pointer and a length in elements. A pointer is never NULL, also not where the length is 0.
+ * Pointers. A slice is a pointer and a length in elements. An array, as ranges[APK_BANK_CELLS] is, has all its
+ * elements, also where the entry makes use of some alone. A pointer is never NULL, also not where the length is 0.
  * What an entry may write overlaps with nothing else that the same call is lent. `rules` is a set of bits,
  * those of enum apk_rules; the others mean nothing yet and are not looked at: pass them as 0. A place is an index into
  * the bytes lent; one past their end is like their end.
@@ -31,11 +34,15 @@
  * the slices only, its answer is the one that its definition gives, and so is what each lent value and each lent byte
  * holds at the end, after a refusal too. The definition is named with each entry: smf.Lists.listAt is listAt in
  * crates/smf/specs/Lists.antt. Those of smf are written from Standard MIDI Files 1.0 and from the project's rules
- * (docs/RULES.md), those of player from the rules, and none from the code; those of loader, loader_track, rows, same
- * and write, and player.Entries, say how C sees an event or a table, and are made of them. Proved of the definitions:
- * what is written is read back, strictly and leniently, whatever follows it; every event that is read is legal; no
- * bytes that are read strictly as an event are shorter than those that are written for it. Not proved, but compared in
- * runs: that midly 0.5.3 answers alike, see docs/DIFFERENCES.md.
+ * (docs/RULES.md), those of player and bank from the rules, and none from the code; those of loader, loader_track,
+ * rows, same and write, and player.Entries and bank.Entries, say how C sees an event, a table or ranges, and are made
+ * of them. Proved of the definitions: what is written is read back, strictly and leniently, whatever follows it; every
+ * event that is read is legal; no bytes that are read strictly as an event are shorter than those that are written for
+ * it. Proved of banks: what apk_bank_write writes, apk_bank_read reads back as those tracks, byte for byte; bytes that
+ * apk_bank_read accepts are what apk_bank_write writes for the ranges that it gives, so that no other bytes read as the
+ * same tracks; and apk_bank_write accepts exactly when the count, the ranges and the size allow it.
+ * Not proved, but compared in runs: that midly 0.5.3 answers alike, and, of what it does not have, a model that is
+ * written from the rules, see docs/DIFFERENCES.md.
  * Assumed: Rattle's prover and compiler, LLVM, and that the caller keeps to "Pointers" above. */
 #ifndef APKAREWE_H
 #define APKAREWE_H
@@ -78,15 +85,23 @@ enum apk_answer {
                                      ranges; also a bend's value asked of a number above its width; of a table: a delta
                                      or restricted field of a list, or a channel or key asked for, above its width */
     APK_PAYLOAD_OUTSIDE = 19,     /* written: a payload's range is not inside the payload bytes; a start beyond their
-                                     end counts even at length 0 */
-    APK_NO_ROOM = 20,             /* written: there is no room; apk_list_read and apk_sounding_silence alone: the cells
-                                     are too few for the rows */
+                                     end counts even at length 0; of a bank: a track's range is not inside the bytes
+                                     lent, a start counting so too */
+    APK_NO_ROOM = 20,             /* written: there is no room; of a bank also: it would be above APK_BANK_BYTES;
+                                     apk_list_read, apk_bank_list and apk_sounding_silence alone: the cells are too few
+                                     for the rows */
     APK_TOO_MANY_EVENTS = 21,     /* written: the count is above what a list holds, APK_LIST_ROWS; also of a list that
                                      is put into a table */
     APK_PAYLOAD_TOO_LONG = 22,    /* written: a payload is above 268,435,455 bytes */
     APK_UNKNOWN_NAMED = 23,       /* written: an Unknown that would be read as a named kind, or refused as a short key
                                      signature */
-    APK_FULL = 255                /* apk_list_read alone: APK_LIST_ROWS events read, and bytes left. No refusal */
+    APK_BANK_SHORT = 24,          /* a bank is shorter than its header and entries */
+    APK_TOO_MANY_TRACKS = 25,     /* a bank's count is above the tracks that a bank may have, APK_BANK_TRACKS; read
+                                     wherever its four bytes are there, and written */
+    APK_BANK_DISAGREES = 26,      /* any other disagreement in a bank, or one above its most bytes, APK_BANK_BYTES */
+    APK_NO_SUCH_TRACK = 34,       /* a bank has no track of this index */
+    APK_FULL = 255                /* apk_list_read and apk_bank_list alone: APK_LIST_ROWS events read, and bytes left.
+                                     No refusal */
 };
 
 /* An event is a row of cells. */
@@ -109,6 +124,9 @@ enum { APK_LIST_ROWS = 128, APK_LIST_CELLS = APK_LIST_ROWS * APK_CELLS };
 
 /* A table of velocities is so many channels by so many keys, a byte each. */
 enum { APK_CHANNELS = 16, APK_KEYS = 128, APK_TABLE_BYTES = APK_CHANNELS * APK_KEYS };
+
+/* A bank has at most so many tracks and bytes. Its ranges are so many cells: for each track two, start and length. */
+enum { APK_BANK_TRACKS = 16, APK_BANK_CELLS = 2 * APK_BANK_TRACKS, APK_BANK_BYTES = 65536 };
 
 /* The kinds: a channel message by the upper half of its status, a meta message by 0x100 and its type. */
 enum apk_kind {
@@ -248,6 +266,48 @@ void apk_sounding_counts(const uint8_t table[APK_TABLE_BYTES], uint8_t sounding[
  * Definition: player.Sounding.silence, laid out by rows.Sheet.sheetOf. */
 uint8_t apk_sounding_silence(const uint8_t table[APK_TABLE_BYTES], uint8_t channel, uint8_t key,
                              uint64_t *rows, size_t cells, size_t *count);
+
+/* Banks of tracks ------------------------------------------------------------------------------------------------ */
+/* A bank is several tracks in one block of bytes. It begins with numbers of 32 bits, the highest byte first: the count
+ * of the tracks, the total, which is how many bytes the block has, then an offset and a length for each track. The
+ * tracks follow in that order with no gap: the first starts at 8 + 8 * count, each next where the one before it ends,
+ * and the last ends where the block does. A track may be empty, and a bank of no tracks is 8 bytes.
+ * A block that is no bank is refused by 25 where the count is above APK_BANK_TRACKS, wherever its four bytes are there;
+ * then by 24 where the block is shorter than the two numbers and the entries of all tracks; then by 26 for any other
+ * disagreement, and above APK_BANK_BYTES bytes. No sum of an offset and a length wraps. */
+
+/* Reads a bank: where each of its tracks stands in the block.
+ *   ranges  two cells for each track, its start and its length; the cells past the count are 0
+ *   count   how many tracks there are
+ * Refuses 25, 24, 26; then everything is as it came. What the tracks hold is not looked at.
+ * Definition: bank.Read.readBank, laid out by bank.Entries.cellsOf. */
+uint8_t apk_bank_read(const uint8_t *block, size_t block_len, uint64_t ranges[APK_BANK_CELLS], size_t *count);
+
+/* Where the track of an index, counted from 0, stands in the block. Refuses 25, 24, 26, then 34; then both values are
+ * as they came. Definition: bank.Read.trackAt. */
+uint8_t apk_bank_track(const uint8_t *block, size_t block_len, size_t index, size_t *start, size_t *length);
+
+/* Lists the track of an index: what apk_list_read does with the track's bytes by themselves, from place 0 and no
+ * running status. Places, and the starts of payloads, count from the track's first byte. A list that is full goes on by
+ * apk_list_read, of the `length` bytes at `block + start`, both of which apk_bank_track gives, at *place from *after.
+ *   rows, cells, count, place, after, padding  as for apk_list_read
+ * Refuses 25, 24, 26, then 34; then everything is as it came. Else it answers what apk_list_read answers, and leaves
+ * what that leaves. Definition: bank.Read.trackListed, laid out by bank.Entries.listCells. */
+uint8_t apk_bank_list(const uint8_t *block, size_t block_len, size_t index, uint8_t rules,
+                      uint64_t *rows, size_t cells, size_t *count, size_t *place, uint8_t *after, size_t *padding);
+
+/* Writes the bank of so many ranges of the bytes, in their order, from out[0] on.
+ *   bytes, bytes_len  the bytes that the ranges speak of
+ *   ranges            two cells for each track, its start and its length. All APK_BANK_CELLS cells must be there; what
+ *                     those past the count hold does not matter. Ranges may be empty, overlap and repeat
+ *   out, out_len      where the bank goes; nothing behind it is changed, and after a refusal nothing at all
+ *   total             how many bytes the bank has; as it came after a refusal
+ * Refuses 25 where the count is above APK_BANK_TRACKS; then 19 where a range is not inside the bytes, and a start
+ * beyond their end counts even at length 0; then 20 where the bank would be above APK_BANK_BYTES bytes, or out is too
+ * short.
+ * Definition: bank.Write.writeBank, of the ranges that bank.Entries.rangesIn makes of the cells. */
+uint8_t apk_bank_write(const uint8_t *bytes, size_t bytes_len, const uint64_t ranges[APK_BANK_CELLS], size_t count,
+                       uint8_t *out, size_t out_len, size_t *total);
 
 /* Numbers and payloads ------------------------------------------------------------------------------------------- */
 

@@ -3,6 +3,7 @@
 
 use crate::prelude::*;
 
+mod bank;
 mod bends;
 mod events;
 mod header;
@@ -62,6 +63,7 @@ impl Arena {
             Some("lists") => lists::run,
             Some("listing") => listing::run,
             Some("sounding") => sounding::run,
+            Some("bank") => bank::run,
             Some("list") => return listing::list(),
             Some("sounds") => return sounding::sounds(),
             Some("vectors") => return vectors::print(),
@@ -79,6 +81,6 @@ impl Arena {
 }
 
 fn usage() -> i32 {
-    eprintln!("usage: MODULE [--full] [--seed N], where MODULE is: numbers, header, bends, events, writing, lists, listing, sounding; or: list; or: sounds; or: vectors");
+    eprintln!("usage: MODULE [--full] [--seed N], where MODULE is: numbers, header, bends, events, writing, lists, listing, sounding, bank; or: list; or: sounds; or: vectors");
     2
 }

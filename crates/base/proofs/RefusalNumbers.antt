@@ -8,7 +8,7 @@ use Rattle.base.specs.Refusal.{numberOf}
 use Rattle.base.specs.declared.Refusal.{Refusal}
 use Rattle.base.specs.declared.Refusal.the-variants as refusal
 
--- by number, from 0, which is none's
+-- by number, from 0, which is none's, as 27 to 33 are
 table : List Refusal
 table =
     refusal.RunningStatus
@@ -35,6 +35,17 @@ table =
     ∷ refusal.TooManyEvents
     ∷ refusal.PayloadTooLong
     ∷ refusal.UnknownNamed
+    ∷ refusal.BankShort
+    ∷ refusal.TooManyTracks
+    ∷ refusal.BankDisagrees
+    ∷ refusal.RunningStatus
+    ∷ refusal.RunningStatus
+    ∷ refusal.RunningStatus
+    ∷ refusal.RunningStatus
+    ∷ refusal.RunningStatus
+    ∷ refusal.RunningStatus
+    ∷ refusal.RunningStatus
+    ∷ refusal.NoSuchTrack
     ∷ []
 
 pub refusalOf : ℕ → Refusal
@@ -65,6 +76,10 @@ number-back refusal.NoRoom = refl
 number-back refusal.TooManyEvents = refl
 number-back refusal.PayloadTooLong = refl
 number-back refusal.UnknownNamed = refl
+number-back refusal.BankShort = refl
+number-back refusal.TooManyTracks = refl
+number-back refusal.BankDisagrees = refl
+number-back refusal.NoSuchTrack = refl
 
 pub numberOf-injective : {x y : Refusal} → numberOf x ≡ numberOf y → x ≡ y
 numberOf-injective = injective numberOf refusalOf number-back

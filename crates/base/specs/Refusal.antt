@@ -28,3 +28,7 @@ numberOf refusal.NoRoom = 20
 numberOf refusal.TooManyEvents = 21
 numberOf refusal.PayloadTooLong = 22
 numberOf refusal.UnknownNamed = 23
+numberOf refusal.BankShort = 24
+numberOf refusal.TooManyTracks = 25
+numberOf refusal.BankDisagrees = 26
+numberOf refusal.NoSuchTrack = 34

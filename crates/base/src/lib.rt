@@ -43,9 +43,10 @@ pub enum Refusal {
     // 18, written: a restricted field is above its width, or an SMPTE time outside its ranges; also a number above its width
     // of which a restricted one is to be made, and a field of a list that is put into a table
     AboveWidth,
-    // 19, written: a payload's range is not inside the payload bytes
+    // 19, written: a payload's range is not inside the payload bytes; also a track's, of a bank, not inside the bytes lent
     PayloadOutside,
-    // 20, written: there is no room; also where cells are too few for the rows that are handed out
+    // 20, written: there is no room; also where cells are too few for the rows that are handed out, and where a bank would be
+    // above its most bytes
     NoRoom,
     // 21, written: the count is above what a list holds; also of a list that is put into a table
     TooManyEvents,
@@ -53,6 +54,14 @@ pub enum Refusal {
     PayloadTooLong,
     // 23, written: an `Unknown` that would be read as a named kind, or refused as a short key signature
     UnknownNamed,
+    // 24: a bank is shorter than its header and entries
+    BankShort,
+    // 25: a bank's count is above the tracks that a bank may have
+    TooManyTracks,
+    // 26: any other disagreement in a bank, or one above its most bytes
+    BankDisagrees,
+    // 34: a bank has no track of this index
+    NoSuchTrack,
 }
 
 // A number of two bits: the code of an SMPTE rate.

@@ -32,6 +32,10 @@ impl Refusal {
             Refusal::TooManyEvents => 21,
             Refusal::PayloadTooLong => 22,
             Refusal::UnknownNamed => 23,
+            Refusal::BankShort => 24,
+            Refusal::TooManyTracks => 25,
+            Refusal::BankDisagrees => 26,
+            Refusal::NoSuchTrack => 34,
         }
     }
 }

@@ -13,6 +13,9 @@ use Rattle.claims.proofs.Point2.{point-2}
 use Rattle.claims.proofs.Point3.{writes}
 use Rattle.claims.proofs.Point3Calls.{point-3}
 use Rattle.claims.proofs.Sounding.{sounding}
+use Rattle.claims.proofs.BankForms.{worked}
+use Rattle.claims.proofs.Banks.{of-definitions, of-functions}
+use Rattle.claims.proofs.BankEntries.{of-entries}
 use Rattle.claims.proofs.Padding.{padding, entry-padding}
 use Rattle.claims.proofs.SmfForms.{smf-forms}
 use Rattle.claims.proofs.Literals.{literals}
@@ -38,4 +41,5 @@ all =
       sounding = sounding;
       padding = padding;
       entry-padding = entry-padding;
+      banks = record { forms = of-definitions; calls = of-functions; entries = of-entries; worked = worked };
     }

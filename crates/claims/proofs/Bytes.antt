@@ -28,7 +28,7 @@ use Rattle.smf.proofs.Event.{is-legal}
 use Rattle.smf.proofs.Legal.{isLegal, AllLegal}
 use Rattle.claims.specs.Point3.{Bytes, BytesCarried, CarryBytes}
 
-both-bytes : (a b : List ℕ) → Bytes a → Bytes b → Bytes (a ++ b)
+pub both-bytes : (a b : List ℕ) → Bytes a → Bytes b → Bytes (a ++ b)
 both-bytes [] b p q = q
 both-bytes (x ∷ a) b p q = (p .0, both-bytes a b (p .1) q)
 

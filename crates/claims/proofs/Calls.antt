@@ -4,7 +4,7 @@ use mathlib.Core.List.{List, map}
 use Prim.Native.Nat.{ℕ}
 use denote.Ref.{now}
 use Rattle.smf.specs.Place.{numberAt, payloadAt}
-use Rattle.smf.specs.Write.{write, numberBytes, payloadBytes}
+use Rattle.smf.specs.Write.{write, numberBytes, part, payloadBytes}
 use Rattle.smf.specs.MetaAt.{metaAt}
 use Rattle.smf.specs.Event.{eventAt, legal, writeEvent}
 use Rattle.smf.specs.Lists.{listAt, heldAs, recordsJudged, sizeList, writeList}
@@ -40,7 +40,15 @@ use Rattle.player.specs.Table.{Table}
 use Rattle.player.specs.Widths.{accepted}
 use Rattle.player.specs.Sounding as player
 use Rattle.player.specs.Answers.{withNumber, tableBeside, listBeside}
-use Rattle.claims.specs.Calls.{first, second, third, fourth, fifth, sixth, ReadU7, WriteVarlen, ReadVarlenSlice, WriteVarlenSlice, MetaMessageRead, TrackEventRead, EventListRead, WriteEvent, WriteRow, ListLength, WriteList, RowsLength, WriteRows, After, Silence}
+use Rattle.bank.specs.Bank.{mostTracks}
+use Rattle.bank.specs.Read.{readBank, trackAt, trackListed}
+use Rattle.bank.specs.Write.{writeBank}
+use Rattle.bank.specs.Answers.{spansOf, bankAnswer, bankRead, bankTrack, listAnswer, listedTrack, bankLeft}
+use Rattle.bank.specs.declared.read.ReadBank.{ReadBank}
+use Rattle.bank.specs.declared.read.BankTrack as asked
+use Rattle.bank.specs.declared.list.ListedTrack.{ListedTrack}
+use Rattle.bank.specs.declared.writing.WroteBank.{WroteBank}
+use Rattle.claims.specs.Calls.{first, second, third, fourth, fifth, sixth, ReadU7, WriteVarlen, ReadVarlenSlice, WriteVarlenSlice, MetaMessageRead, TrackEventRead, EventListRead, WriteEvent, WriteRow, ListLength, WriteList, RowsLength, WriteRows, After, Silence, WriteSlice, BankRead, BankTrack, ListTrack, WriteBank}
 
 pub read-u7 : (Claim : List ℕ → ℕ → Rules → ReadNumber → Type 0)
     → ((raw : List ℕ) (at : ℕ) (rules : Rules) (r : ReadNumber) → numberRead r ≡ numberAt (rulesOf rules) raw at → Claim raw at rules r)
@@ -137,3 +145,31 @@ pub silence : (Claim : Table → u4 → u7 → EventList → ℕ → Type 0)
     → withNumber (heldOf list) number ≡ listBeside capacity (player.silence capacity table (channel .0) (key .0)) → Claim table channel key list number)
     → Silence Claim
 silence Claim law κs a r e told = law (first a) (second a) (third a) r (now (fourth e)) told
+
+pub write-slice : (Claim : List ℕ → Range → List ℕ → ℕ → WroteNumber → List ℕ → Type 0)
+    → ((bytes : List ℕ) (slice : Range) (out : List ℕ) (at : ℕ) (r : WroteNumber) (end : List ℕ)
+    → writeLeft r end ≡ write (part bytes (record { start = slice .start; length = slice .length })) out at → Claim bytes slice out at r end)
+    → WriteSlice Claim
+write-slice Claim law κs a r e told = law (now (first a)) (second a) (now (third a)) (fourth a) r (now (third e)) told
+
+pub read-bank : (Claim : List ℕ → ReadBank → Type 0)
+    → ((block : List ℕ) (r : ReadBank) → bankRead r ≡ bankAnswer mostTracks (readBank mostTracks block) → Claim block r)
+    → BankRead Claim
+read-bank Claim law κs a r e told = law (now (first a)) r told
+
+pub bank-track : (Claim : List ℕ → ℕ → asked.BankTrack → Type 0)
+    → ((block : List ℕ) (index : ℕ) (r : asked.BankTrack) → bankTrack r ≡ trackAt mostTracks block index → Claim block index r)
+    → BankTrack Claim
+bank-track Claim law κs a r e told = law (now (first a)) (second a) r told
+
+pub list-track : (Claim : List ℕ → ℕ → Rules → ListedTrack → Type 0)
+    → ((block : List ℕ) (index : ℕ) (rules : Rules) (r : ListedTrack)
+    → listedTrack r ≡ listAnswer capacity (trackListed (rulesOf rules) capacity mostTracks block index) → Claim block index rules r)
+    → ListTrack Claim
+list-track Claim law κs a r e told = law (now (first a)) (second a) (third a) r told
+
+pub write-bank : (Claim : List ℕ → List Range → ℕ → List ℕ → WroteBank → List ℕ → Type 0)
+    → ((bytes : List ℕ) (ranges : List Range) (count : ℕ) (out : List ℕ) (r : WroteBank) (end : List ℕ)
+    → bankLeft r end ≡ writeBank mostTracks bytes (spansOf ranges) count out → Claim bytes ranges count out r end)
+    → WriteBank Claim
+write-bank Claim law κs a r e told = law (now (first a)) (second a) (third a) (now (fourth a)) r (now (fourth e)) told

@@ -19,7 +19,7 @@ use Rattle.player.specs.Answers.{Beside}
 use Rattle.player.specs.Entries.{CellsLeft}
 use Rattle.claims.specs.Calls.{first, second, third, fourth, fifth, sixth, seventh}
 use Rattle.claims.proofs.Agree.{joined, agree₂, agree₃, agree₄, agree₅, agree₆}
-use Rattle.claims.specs.Entries.{NumberEntries, HeaderEntries, TimeEntries, BendEntries, EventEntries, ListEntries, Sameness, SoundingEntries, Sheets, HandedOver, Entries}
+use Rattle.claims.specs.Entries.{NumberEntries, HeaderEntries, TimeEntries, BendEntries, EventEntries, ListEntries, Sameness, SoundingEntries, BankEntries, Sheets, HandedOver, Entries}
 
 rulesOf-injective : {x y : Rules} → rulesOf x ≡ rulesOf y → x ≡ y
 rulesOf-injective e = ap (λ (r : smf.Rules). record { strict = r .strict }) e
@@ -112,6 +112,15 @@ sounding =
           joined (ap (λ (c : CellsLeft). c .number) same, joined (ap (λ (c : CellsLeft). c .cells) same, ap (λ (c : CellsLeft). c .count) same));
     }
 
+banks : BankEntries
+banks =
+    record {
+      bank-read = λ κs a y z d e p q. agree₃ p q;
+      bank-track = λ κs a y z d e p q. agree₃ p q;
+      bank-list = λ κs a y z d e p q. agree₆ p q;
+      bank-write = λ κs a y z d e p q. agree₃ p q;
+    }
+
 sheets : Sheets
 sheets =
     record {
@@ -125,4 +134,4 @@ handed-over =
     }
 
 pub entries : Entries
-entries = record { numbers = numbers; headers = headers; times = times; bends = bends; events = events; lists = lists; sameness = sameness; sounding = sounding; sheets = sheets; handed-over = handed-over }
+entries = record { numbers = numbers; headers = headers; times = times; bends = bends; events = events; lists = lists; sameness = sameness; sounding = sounding; banks = banks; sheets = sheets; handed-over = handed-over }

@@ -12,15 +12,15 @@ use lib.ListN.{length, drop}
 use denote.Ref.{now}
 use Rattle.smf.specs.Answer.{Answer, gives, refuses, andThen, Rules}
 use Rattle.smf.specs.Number.{readNumber}
-use Rattle.smf.specs.Place.{NumberAt, PayloadAt, numberAt, payloadAt}
+use Rattle.smf.specs.Place.{NumberAt, PayloadAt, Span, numberAt, payloadAt, inside, bytesOf}
 use Rattle.smf.specs.Write.{put, write, numberBytes, payloadBytes}
 use Rattle.smf.specs.Header.{isFormat, toFormat, readFormat, readTiming, encodeTiming}
 use Rattle.smf.specs.Smpte.{Time, time, toRate, codeOfRate, toTime, timeOf, encodeTime, position}
 use Rattle.smf.specs.Seconds.{rateFloat, secondsOf}
 use Rattle.smf.specs.Bend.{askBend, askFloat}
 use Rattle.smf.specs.Event.{ReadAt, readsAt, refusedAt, eventAt}
-use Rattle.smf.specs.Lists.{Stop, ended, full, stopped, ListAt}
-use Rattle.smf.proofs.Answer.{pick-both, by-lt}
+use Rattle.smf.specs.Lists.{Stop, ended, full, stopped, ListAt, listAt}
+use Rattle.smf.proofs.Answer.{pick-both, by-lt, by-answer, said-refused}
 use Rattle.smf.proofs.Write.{put-fits, put-full}
 use Rattle.track.specs.List.{capacity}
 use Rattle.rows.specs.RowEvent.{isRow}
@@ -35,19 +35,26 @@ use Rattle.loader.specs.Fields.{encodeFormat, timingGiven, ticksOf, timingRate,
 use Rattle.loader.specs.Smpte.{timeGiven, sixOf}
 use Rattle.event.specs.Lent.{readRunning}
 use Rattle.loader_track.specs.Events.{readAnswered, readRow, readUsed, readPadding}
-use Rattle.loader_track.specs.Lists.{stopNumber, listGiven, readAnswer}
+use Rattle.loader_track.specs.Lists.{stopNumber, listGiven, sheetPut, readAnswer}
 use Rattle.player.specs.Sounding.{silence}
 use Rattle.player.specs.Entries.{tableIn, rowsAccepted}
-use Rattle.claims.specs.Calls.{first, second, third, fourth, fifth, sixth, seventh, eighth, ninth}
-use Rattle.claims.specs.Table.{among, OneOf, By, ofNumber, ofPayload, ofEvent, ofLength}
-use Rattle.claims.specs.Stands.{statusLeft, EventOrLeft, Why}
-use Rattle.claims.specs.EntrySays.{Outcome, AnswersBy}
-use Rattle.claims.specs.EntryPoint1.{NumberRefusals, FieldRefusals, TimeRefusals, BendRefusals, TrackRefusals, SameRefusals, SoundingRefusals, EntryPoint1}
+use Rattle.bank.specs.Bank.{mostTracks}
+use Rattle.bank.specs.Read.{readBank, trackAt, trackListed}
+use Rattle.bank.specs.Write.{rangesBank}
+use Rattle.bank.specs.Answers.{heldTracks}
+use Rattle.bank.specs.Entries.{cellsOf, rangesIn, stopAnswered, listCells, listLeaves}
+use Rattle.claims.specs.Calls.{Lent, first, second, third, fourth, fifth, sixth, seventh, eighth, ninth}
+use Rattle.claims.specs.Table.{among, OneOf, By, ofNumber, ofPayload, ofEvent, ofLength, ofBank, ofBankTrack, ofBankWriting}
+use Rattle.claims.specs.Stands.{statusLeft, EventOrLeft, Why, ListStands}
+use Rattle.claims.specs.EntrySays.{Unchanged, Outcome, AnswersBy}
+use Rattle.claims.specs.EntryPoint1.{NumberRefusals, FieldRefusals, TimeRefusals, BendRefusals, TrackRefusals, SameRefusals, HandedOut, ListTold, SoundingRefusals, BankRefusals, EntryPoint1}
 use Rattle.claims.proofs.Refusals.{allAmong, then-by, by-more, one-of-more, number-at-by, payload-at-by, format-by, rate-by, timing-by, timing-bytes-by, time-by, time-of-by, time-bytes-by, seconds-by, position-by, bend-by, bend-float-by, number-bytes-by, payload-bytes-by, write-keeps, row-by, event-length-by}
 use Rattle.claims.proofs.ReadLeaves.{event-or-left}
 use Rattle.claims.proofs.Stands.{list-stands}
 use Rattle.claims.proofs.EntrySays.{answers, keeps₁, keeps₂, keeps₃, writes}
 use Rattle.claims.proofs.Player.{rows-accepted-by, silence-by, answers-beside, rows-answers}
+use Rattle.claims.proofs.BankRefusals.{bank-by, track-by, ranges-bank-by}
+use Rattle.bank.proofs.Tracks.{track-inside, listed-there, listed-refused}
 use Rattle.claims.proofs.EntryWrites.{event-write, list-length, list-write}
 
 numbers : NumberRefusals
@@ -182,6 +189,25 @@ module _ (l : ListAt) (cells : List ℕ) where
         twenty true = refl
         twenty false = refl
 
+-- what is told of a list that is handed out
+module _ (l : ListAt) (rows : Lent (List ℕ)) (count place after padding : Lent ℕ) (r : ℕ) where
+  list-told : (r ≡ readAnswer l (rows .before)) × ((rows .after ≡ sheetPut l (rows .before) .buffer)
+      × ((count .after ≡ leaves (λ (n : ℕ). length (l .events)) (sheetPut l (rows .before) .answer) (count .before))
+      × ((place .after ≡ leaves (λ (n : ℕ). l .place) (sheetPut l (rows .before) .answer) (place .before))
+      × ((after .after ≡ leaves (λ (n : ℕ). l .running) (sheetPut l (rows .before) .answer) (after .before))
+      × (padding .after ≡ leaves (λ (n : ℕ). l .padding) (sheetPut l (rows .before) .answer) (padding .before))))))
+      → ListTold l rows count place after padding r
+  list-told told =
+      let put = sheetOf (l .events) in
+      record {
+        fits = λ h.
+            let t = rw (← put-fits put (rows .before) 0 (omega (arith, h))) at told in
+            record { answer = t .0; cells = t .1 .0; many = t .1 .1 .0; reached = t .1 .1 .1 .0; status = t .1 .1 .1 .1 .0; padded = t .1 .1 .1 .1 .1 };
+        short = λ h.
+            let t = rw (← put-full put (rows .before) 0 (omega (arith, h))) at told in
+            (t .0, t .1 .0, t .1 .1 .0, t .1 .1 .1 .0, t .1 .1 .1 .1 .0, t .1 .1 .1 .1 .1);
+      }
+
 tracks : TrackRefusals
 tracks =
     record {
@@ -208,18 +234,7 @@ tracks =
       list-read = λ κs a r e told.
           let rules = fromBits (fourth a) in
           let l = listGiven (fourth a) (third a) (now (first a)) (second a) in
-          let put = sheetOf (l .events) in (
-            l,
-            list-stands rules (now (first a)) (second a) capacity (third a),
-            record {
-              fits = λ h.
-                  let t = rw (← put-fits put (now (fifth a)) 0 (omega (arith, h))) at told in
-                  record { answer = t .0; cells = t .1 .0; many = t .1 .1 .0; reached = t .1 .1 .1 .0; status = t .1 .1 .1 .1 .0; padded = t .1 .1 .1 .1 .1 };
-              short = λ h.
-                  let t = rw (← put-full put (now (fifth a)) 0 (omega (arith, h))) at told in
-                  (t .0, t .1 .0, t .1 .1 .0, t .1 .1 .1 .0, t .1 .1 .1 .1 .0, t .1 .1 .1 .1 .1);
-            },
-          );
+          (l, list-stands rules (now (first a)) (second a) capacity (third a), list-told l _ _ _ _ _ r told);
     }
 
 -- what was asked of two rows, or of two sets of rows
@@ -257,5 +272,46 @@ sounding =
           rows-answers (silence capacity table (second a) (third a)) (now (fourth a)) (silence-by capacity table (second a) (third a)) told;
     }
 
+-- a track of a bank, listed
+module _ (block : List ℕ) (index bits : ℕ) (rows : Lent (List ℕ)) (count place after padding : Lent ℕ) (r : ℕ) where
+  abbrev listing : Answer ListAt
+  listing = trackListed (fromBits bits) capacity mostTracks block index
+
+  bank-listed : (r ≡ stopAnswered listing (rows .before)) × ((rows .after ≡ listCells listing (rows .before))
+      × ((count .after ≡ listLeaves (λ (l : ListAt). length (l .events)) listing (rows .before) (count .before))
+      × ((place .after ≡ listLeaves (λ (l : ListAt). l .place) listing (rows .before) (place .before))
+      × ((after .after ≡ listLeaves (λ (l : ListAt). l .running) listing (rows .before) (after .before))
+      × (padding .after ≡ listLeaves (λ (l : ListAt). l .padding) listing (rows .before) (padding .before))))))
+      → (OneOf ofBankTrack r × Unchanged rows × Unchanged count × Unchanged place × Unchanged after × Unchanged padding)
+      ⊎ ((track : Span) × (trackAt mostTracks block index ≡ gives track) × (inside block track ≡ true)
+      × ((l : ListAt) × ListStands (fromBits bits) (bytesOf block track) capacity 0 0 l × ListTold l rows count place after padding r))
+  bank-listed told =
+      by-answer (trackAt mostTracks block index)
+      (λ track is.
+      let rules = fromBits bits in
+      let l = listAt rules capacity 0 (bytesOf block track) 0 in
+      let t = rw (listed-there mostTracks block index rules capacity track is) at told in
+      inr (track, is, track-inside mostTracks block index is, (l, list-stands rules (bytesOf block track) 0 capacity 0, list-told l rows count place after padding r t)))
+      (λ n is.
+      let t = rw (listed-refused mostTracks block index (fromBits bits) capacity n is) at told in
+      inl (rw (t .0) (said-refused (By ofBankTrack) (track-by mostTracks block index) is), t .1 .0, t .1 .1 .0, t .1 .1 .1 .0, t .1 .1 .1 .1 .0, t .1 .1 .1 .1 .1))
+
+banks : BankRefusals
+banks =
+    record {
+      bank-read = λ κs a r e told.
+          keeps₂ ofBank (readBank mostTracks (now (first a))) (λ (tracks : List Span). cellsOf (heldTracks mostTracks tracks .tracks)) (λ (tracks : List Span). length tracks) _ _
+          (bank-by mostTracks (now (first a))) told;
+      bank-track = λ κs a r e told.
+          keeps₂ ofBankTrack (trackAt mostTracks (now (first a)) (second a)) (λ (track : Span). track .start) (λ (track : Span). track .length) _ _
+          (track-by mostTracks (now (first a)) (second a)) told;
+      bank-list = λ κs a r e told. bank-listed (now (first a)) (second a) (third a) _ _ _ _ _ r told;
+      bank-write = λ κs a r e told.
+          let ranges = rangesIn mostTracks (now (second a)) in
+          let own = rangesBank mostTracks (now (first a)) ranges (third a) in
+          writes ofBankWriting _ _ (write own (now (fourth a)) 0)
+          (write-keeps ofBankWriting own (now (fourth a)) 0 (ranges-bank-by mostTracks (now (first a)) ranges (third a)) refl) told;
+    }
+
 pub entry-point-1 : EntryPoint1
-entry-point-1 = record { numbers = numbers; fields = fields; times = times; bends = bends; tracks = tracks; sameness = sameness; sounding = sounding }
+entry-point-1 = record { numbers = numbers; fields = fields; times = times; bends = bends; tracks = tracks; sameness = sameness; sounding = sounding; banks = banks }

@@ -1,5 +1,5 @@
 -- No function has a `requires`: what it asks is nothing, of whatever arguments.
-use Rattle.claims.specs.EveryInput.{AnyBase, AnyNumber, AnyHeader, AnyMidi, AnyMeta, AnyEvent, AnyTrack, AnyRows, AnyWrite, AnySame, AnyLoader, AnyLoaderTrack, AnyPlayer, EveryInput}
+use Rattle.claims.specs.EveryInput.{AnyBase, AnyNumber, AnyHeader, AnyMidi, AnyMeta, AnyEvent, AnyTrack, AnyRows, AnyWrite, AnySame, AnyLoader, AnyLoaderTrack, AnyPlayer, AnyBank, EveryInput}
 
 base : AnyBase
 base =
@@ -44,6 +44,8 @@ number =
       write-varlen = λ κs a. tt;
       read-varlen-slice = λ κs a. tt;
       write-varlen-slice = λ κs a. tt;
+      is-inside = λ κs a. tt;
+      write-slice = λ κs a. tt;
     }
 
 header : AnyHeader
@@ -204,5 +206,18 @@ player =
       sounding-silence = λ κs a. tt;
     }
 
+bank : AnyBank
+bank =
+    record {
+      read-bank = λ κs a. tt;
+      bank-track = λ κs a. tt;
+      list-track = λ κs a. tt;
+      write-bank = λ κs a. tt;
+      bank-read = λ κs a. tt;
+      bank-track-entry = λ κs a. tt;
+      bank-list = λ κs a. tt;
+      bank-write = λ κs a. tt;
+    }
+
 pub every-input : EveryInput
-every-input = record { base = base; number = number; header = header; midi = midi; meta = meta; event = event; track = track; rows = rows; write = write; same = same; loader = loader; loader-track = loader-track; player = player }
+every-input = record { base = base; number = number; header = header; midi = midi; meta = meta; event = event; track = track; rows = rows; write = write; same = same; loader = loader; loader-track = loader-track; player = player; bank = bank }

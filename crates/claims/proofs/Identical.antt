@@ -30,9 +30,10 @@ use Rattle.same.specs.OfRows.{rowsAsked, listsAsked}
 use Rattle.same.proofs.Identical.{tells-identical, says-identical}
 use Rattle.player.specs.Table.{Table}
 use Rattle.player.specs.Answers.{Beside}
+use Rattle.bank.proofs.Identical.{bankRead-injective, bankTrack-injective, listedTrack-injective, bankLeft-injective}
 use Rattle.claims.specs.Calls.{first, second, third, fourth, fifth, sixth}
 use Rattle.claims.proofs.Agree.{joined}
-use Rattle.claims.specs.Identical.{Numbers, Headers, Bends, Events, Lists, Notes, Identical}
+use Rattle.claims.specs.Identical.{Numbers, Headers, Bends, Events, Lists, Notes, Programs, Identical}
 
 -- a row is its numbers
 rowOf : List ℕ → Row
@@ -95,6 +96,8 @@ numbers =
       write-varlen = λ κs a y z d e p q. joined (writeLeft-injective (p ∙ sym q));
       read-varlen-slice = λ κs a y z d e p q. sliceRead-injective (p ∙ sym q);
       write-varlen-slice = λ κs a y z d e p q. joined (writeLeft-injective (p ∙ sym q));
+      is-inside = λ κs a y z d e p q. p ∙ sym q;
+      write-slice = λ κs a y z d e p q. joined (writeLeft-injective (p ∙ sym q));
     }
 
 headers : Headers
@@ -189,5 +192,14 @@ notes =
           let same = p ∙ sym q in joined (heldOf-injective (ap (λ (b : Beside Held). b .value) same), ap (λ (b : Beside Held). b .number) same);
     }
 
+programs : Programs
+programs =
+    record {
+      read-bank = λ κs a y z d e p q. bankRead-injective (p ∙ sym q);
+      bank-track = λ κs a y z d e p q. bankTrack-injective (p ∙ sym q);
+      list-track = λ κs a y z d e p q. listedTrack-injective (p ∙ sym q);
+      write-bank = λ κs a y z d e p q. joined (bankLeft-injective (p ∙ sym q));
+    }
+
 pub identical : Identical
-identical = record { numbers = numbers; headers = headers; bends = bends; events = events; lists = lists; notes = notes }
+identical = record { numbers = numbers; headers = headers; bends = bends; events = events; lists = lists; notes = notes; programs = programs }

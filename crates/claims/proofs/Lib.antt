@@ -33,4 +33,10 @@ pub mod Silences
 pub mod SoundingRows
 pub mod Sounding
 pub mod Padding
+pub mod BankRefusals
+pub mod BankForms
+pub mod BankWrites
+pub mod BankReads
+pub mod Banks
+pub mod BankEntries
 pub mod All

@@ -1,4 +1,4 @@
--- What the kit knows of a value of its type: a list's array is full, and the type of each `Unknown` is a byte; a table has all its channels and keys.
+-- What the kit knows of a value of its type: a list's array is full, and the type of each `Unknown` is a byte; a table has all its channels and keys, and the ranges of a bank are as many as it may have tracks.
 use mathlib.Core.Path.{_≡_, sym, _∙_}
 use mathlib.Core.List.{List, [], _∷_, map}
 use lib.ListN.{length, length-map}
@@ -8,6 +8,7 @@ use denote.Array.{each}
 use denote.Shadow.{shadow}
 use denote.Struct.Laws as struct
 use borrow.Fn.Kinds.{Dens, GoodsP}
+use borrow.Kind.Array.{good-length, eStruct}
 use Rattle.smf.specs.Event.{carries, metaCarries}
 use Rattle.meta.specs.Meta.{numberMeta, metaOf}
 use Rattle.meta.specs.declared.OptionU16.{OptionU16}
@@ -28,6 +29,10 @@ use Rattle.write.proofs.records.write_list as write-list
 use Rattle.player.proofs.Tables.{Shaped}
 use Rattle.player.proofs.Arrays.{shaped-array}
 use Rattle.player.proofs.table.counts as counts
+use Rattle.base.proofs.Range as range
+use Rattle.base.proofs.Range.Laws as range-laws
+use Rattle.bank.specs.Bank.{mostTracks}
+use Rattle.bank.proofs.writing.write_bank as write-bank
 use Rattle.claims.proofs.Carried.{TypeByte, TypeBytes}
 
 number-type : (n : OptionU16) → TypeByte (metaCarries (numberMeta n))
@@ -86,3 +91,6 @@ module _ (κs : Lfts 2) (a : Dens κs write-list.Kinds.ps) (good : GoodsP κs wr
 
 pub full-table : (κs : Lfts 0) (a : Dens κs counts.Kinds.ps) → GoodsP κs counts.Kinds.ps a → Shaped (a .0)
 full-table κs a good = shaped-array (a .0) _ (good .0)
+
+pub full-ranges : (κs : Lfts 2) (a : Dens κs write-bank.Kinds.ps) → GoodsP κs write-bank.Kinds.ps a → length (a .1 .0) ≡ mostTracks
+full-ranges κs a good = good-length (eStruct range.the-type range-laws.the-laws range-laws.the-copy) mostTracks (a .1 .0) _ (good .1 .0)

@@ -7,7 +7,7 @@ use lib.Ieee.{binary32, binary64}
 use denote.Ref.{now}
 use Rattle.smf.specs.Answer.{Answer}
 use Rattle.smf.specs.Write as smf
-use Rattle.smf.specs.Write.{numberBytes, payloadBytes}
+use Rattle.smf.specs.Write.{numberBytes, part, payloadBytes}
 use Rattle.smf.specs.Event.{legal, EventWritten}
 use Rattle.smf.specs.Lists.{ListAt, listAt, holding, heldAs, recordsJudged, ListSize, ListWritten}
 use Rattle.base.specs.Refusal.{numberOf}
@@ -25,13 +25,18 @@ use Rattle.track.specs.Read.{listRead}
 use Rattle.track.specs.declared.read.ReadList.{ReadList}
 use Rattle.player.specs.Widths.{accepted}
 use Rattle.player.specs.Sounding.{silence}
+use Rattle.bank.specs.Bank.{mostTracks}
+use Rattle.bank.specs.Read.{readBank, trackListed}
+use Rattle.bank.specs.Write.{rangesBank}
+use Rattle.bank.specs.Answers.{BankAnswer, ListAnswer, heldTracks, emptyList, spansOf}
 use Rattle.claims.specs.Calls.{first}
-use Rattle.claims.specs.Table.{inTable, By, Keeps, ofNumber, ofPayload, ofMeta, ofLength}
+use Rattle.claims.specs.Table.{inTable, By, Keeps, ofNumber, ofPayload, ofMeta, ofLength, ofBank, ofBankTrack, ofBankWriting}
 use Rattle.claims.specs.Stands.{EventOrLeft, ListStands}
 use Rattle.claims.specs.Leaves.{EventLeaves, SizeLeaves, ListLeaves}
 use Rattle.claims.specs.Point1.{Numbered, Point1}
 use Rattle.claims.proofs.Calls as calls
 use Rattle.claims.proofs.Refusals.{by-more, number-at-by, payload-at-by, meta-at-by, width-by, format-by, rate-by, timing-by, timing-bytes-by, time-by, time-of-by, time-bytes-by, seconds-by, position-by, bend-by, bend-float-by, number-bytes-by, payload-bytes-by, write-keeps, legal-by, row-by, event-length-by}
+use Rattle.claims.proofs.BankRefusals.{bank-by, track-by, listed-by, ranges-bank-by, part-by, bank-keeps, list-keeps}
 use Rattle.claims.proofs.Player.{accepted-by, silence-by, answers-beside}
 use Rattle.claims.proofs.ReadLeaves.{event-or-left}
 use Rattle.claims.proofs.Stands.{list-stands}
@@ -62,6 +67,10 @@ table refusal.NoRoom = refl
 table refusal.TooManyEvents = refl
 table refusal.PayloadTooLong = refl
 table refusal.UnknownNamed = refl
+table refusal.BankShort = refl
+table refusal.TooManyTracks = refl
+table refusal.BankDisagrees = refl
+table refusal.NoSuchTrack = refl
 
 -- what an answer says is refused by the numbers of the definition that it equals
 of : {A : Type 0} {x y : Answer A} (ns : List ℕ) → x ≡ y → By ns y → By ns x
@@ -139,4 +148,18 @@ point-1 =
           answers-beside (18 ∷ 21 ∷ []) table (accepted capacity records (list .count)) _ told (accepted-by capacity records (list .count)));
       silence = calls.silence _ (λ table channel key list number told.
           answers-beside (18 ∷ []) (holding capacity []) (silence capacity table (channel .0) (key .0)) _ told (silence-by capacity table (channel .0) (key .0)));
+      write-slice = calls.write-slice _ (λ bytes slice out at r end told.
+          let own = part bytes (record { start = slice .start; length = slice .length }) in
+          subst (λ (w : smf.Written). Keeps (19 ∷ 20 ∷ []) (w .answer) out (w .buffer)) (sym told)
+          (write-keeps (19 ∷ 20 ∷ []) own out at (part-by bytes (record { start = slice .start; length = slice .length })) refl));
+      read-bank = calls.read-bank _ (λ block r told.
+          subst (λ (w : BankAnswer). Keeps ofBank (w .verdict) (heldTracks mostTracks []) (w .bank)) (sym told)
+          (bank-keeps mostTracks (readBank mostTracks block) (bank-by mostTracks block)));
+      bank-track = calls.bank-track _ (λ block index r told. of ofBankTrack told (track-by mostTracks block index));
+      list-track = calls.list-track _ (λ block index rules r told.
+          subst (λ (w : ListAnswer). Keeps ofBankTrack (w .verdict) (emptyList capacity) (w .list)) (sym told)
+          (list-keeps capacity (trackListed (rulesOf rules) capacity mostTracks block index) (listed-by (rulesOf rules) capacity mostTracks block index)));
+      write-bank = calls.write-bank _ (λ bytes ranges count out r end told.
+          subst (λ (w : smf.Written). Keeps ofBankWriting (w .answer) out (w .buffer)) (sym told)
+          (write-keeps ofBankWriting (rangesBank mostTracks bytes (spansOf ranges) count) out 0 (ranges-bank-by mostTracks bytes (spansOf ranges) count) refl));
     }

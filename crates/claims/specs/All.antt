@@ -12,6 +12,7 @@ use Rattle.claims.specs.Point2.{Point2}
 use Rattle.claims.specs.Point3.{Writes, Point3}
 use Rattle.claims.specs.Sounding.{Sounding}
 use Rattle.claims.specs.Padding.{Padding, EntryPadding}
+use Rattle.claims.specs.Bank.{Banks}
 use Rattle.claims.specs.SmfForms.{SmfForms}
 use Rattle.claims.specs.Literals.{Literals}
 
@@ -44,3 +45,5 @@ pub record All : Type 2 where
   -- document 02, Q-2: padding
   pub padding : Padding
   pub entry-padding : EntryPadding
+  -- document 02, Q-3: a bank of programs
+  pub banks : Banks

@@ -29,6 +29,7 @@ use Rattle.number.proofs.u28.read_u7 as read-u7
 use Rattle.number.proofs.u28.write_varlen as write-varlen
 use Rattle.number.proofs.payload.read_varlen_slice as read-varlen-slice
 use Rattle.number.proofs.payload.write_varlen_slice as write-varlen-slice
+use Rattle.number.proofs.payload.write_slice as write-slice
 use Rattle.meta.proofs.MetaMessage.read as read-meta
 use Rattle.event.proofs.TrackEvent.read as read-event
 use Rattle.track.proofs.list.EventList.read as read-list
@@ -44,6 +45,14 @@ use Rattle.player.proofs.table.fresh as fresh
 use Rattle.player.proofs.table.counts as counts
 use Rattle.player.proofs.notes.after as after
 use Rattle.player.proofs.silence.silence as silence
+use Rattle.bank.specs.declared.read.ReadBank.{ReadBank}
+use Rattle.bank.specs.declared.read.BankTrack as asked
+use Rattle.bank.specs.declared.list.ListedTrack.{ListedTrack}
+use Rattle.bank.specs.declared.writing.WroteBank.{WroteBank}
+use Rattle.bank.proofs.read.read_bank as read-bank
+use Rattle.bank.proofs.read.bank_track as bank-track
+use Rattle.bank.proofs.list.list_track as list-track
+use Rattle.bank.proofs.writing.write_bank as write-bank
 
 -- a call of a function: its arguments, its answer, and the arguments at its end, at any lifetimes of what is lent
 module _ {L : Type 0} {A R E : L → Type 0} (Told : (κs : L) → A κs → R κs → E κs → Type 0) where
@@ -119,6 +128,10 @@ module _ {ℓ} {X : Type ℓ} where
   abbrev pub writeVarlenSliceCall : (List ℕ → Range → List ℕ → ℕ → WroteNumber → List ℕ → X) → Shows write-varlen-slice.Reads.Learnt X
   writeVarlenSliceCall show κs a r e = show (now (first a)) (second a) (now (third a)) (fourth a) r (now (third e))
 
+  -- `write_slice(bytes, slice, out, at)`, its answer, and what `out` holds at the end
+  abbrev pub writeSliceCall : (List ℕ → Range → List ℕ → ℕ → WroteNumber → List ℕ → X) → Shows write-slice.Reads.Learnt X
+  writeSliceCall show κs a r e = show (now (first a)) (second a) (now (third a)) (fourth a) r (now (third e))
+
   -- `read_rows(raw, at, running, rules, cells)`, its answer, and what `cells` holds at the end
   abbrev pub readRowsCall : (List ℕ → ℕ → Running → Rules → List ℕ → ReadRows → List ℕ → X) → Shows read-rows.Reads.Learnt X
   readRowsCall show κs a r e = show (now (first a)) (second a) (third a) (fourth a) (now (fifth a)) r (now (fifth e))
@@ -147,6 +160,10 @@ module _ {ℓ} {X : Type ℓ} where
   abbrev pub silenceCall : (Table → u4 → u7 → EventList → ℕ → X) → Shows silence.Reads.Learnt X
   silenceCall show κs a r e = show (first a) (second a) (third a) r (now (fourth e))
 
+  -- `write_bank(bytes, ranges, count, out)`, its answer, and what `out` holds at the end
+  abbrev pub writeBankCall : (List ℕ → List Range → ℕ → List ℕ → WroteBank → List ℕ → X) → Shows write-bank.Reads.Learnt X
+  writeBankCall show κs a r e = show (now (first a)) (second a) (third a) (now (fourth a)) r (now (fourth e))
+
 -- Claims of every call
 
 -- `u28::read_u7(raw, at, rules)`, and its answer
@@ -162,6 +179,9 @@ ReadVarlenSlice Claim = Always read-varlen-slice.Reads.Learnt (λ κs a r e. Cla
 
 abbrev pub WriteVarlenSlice : (List ℕ → Range → List ℕ → ℕ → WroteNumber → List ℕ → Type 0) → Type 0
 WriteVarlenSlice Claim = Always write-varlen-slice.Reads.Learnt (writeVarlenSliceCall Claim)
+
+abbrev pub WriteSlice : (List ℕ → Range → List ℕ → ℕ → WroteNumber → List ℕ → Type 0) → Type 0
+WriteSlice Claim = Always write-slice.Reads.Learnt (writeSliceCall Claim)
 
 -- `MetaMessage::read(raw, at, rules)`, and its answer
 abbrev pub MetaMessageRead : (List ℕ → ℕ → Rules → ReadMeta → Type 0) → Type 0
@@ -208,3 +228,22 @@ After Claim = Always after.Reads.Learnt (afterCall Claim)
 
 abbrev pub Silence : (Table → u4 → u7 → EventList → ℕ → Type 0) → Type 0
 Silence Claim = Always silence.Reads.Learnt (silenceCall Claim)
+
+-- `read_bank(block)`, and its answer
+abbrev pub BankRead : (List ℕ → ReadBank → Type 0) → Type 0
+BankRead Claim = Always read-bank.Reads.Learnt (λ κs a r e. Claim (now (first a)) r)
+
+-- `bank_track(block, index)`, and its answer
+abbrev pub BankTrack : (List ℕ → ℕ → asked.BankTrack → Type 0) → Type 0
+BankTrack Claim = Always bank-track.Reads.Learnt (λ κs a r e. Claim (now (first a)) (second a) r)
+
+-- `list_track(block, index, rules)`, and its answer
+abbrev pub ListTrack : (List ℕ → ℕ → Rules → ListedTrack → Type 0) → Type 0
+ListTrack Claim = Always list-track.Reads.Learnt (λ κs a r e. Claim (now (first a)) (second a) (third a) r)
+
+abbrev pub WriteBank : (List ℕ → List Range → ℕ → List ℕ → WroteBank → List ℕ → Type 0) → Type 0
+WriteBank Claim = Always write-bank.Reads.Learnt (writeBankCall Claim)
+
+-- the same, of ranges that are a value of their type, as those of every call are: as many as a bank may have tracks
+abbrev pub WriteOwnedBank : (List ℕ → List Range → ℕ → List ℕ → WroteBank → List ℕ → Type 0) → Type 0
+WriteOwnedBank Claim = Always write-bank.Reads.Learnt (λ κs a r e. GoodsP κs write-bank.Kinds.ps a → writeBankCall Claim κs a r e)

@@ -3,10 +3,11 @@
 use Rattle.loader.proofs as loader
 use Rattle.loader_track.proofs as loader_track
 use Rattle.player.proofs as player
+use Rattle.bank.proofs as bank
 use Rattle.rows.proofs as rows
 use Rattle.event.proofs as event
 use Rattle.claims.specs.Calls.{OneAnswer, OneOutcome, readRowsCall, _&_}
-use Rattle.claims.specs.EntryCalls.{numberReadEntry, numberWriteEntry, payloadReadEntry, payloadWriteEntry, formatReadEntry, formatEncodeEntry, timingReadEntry, timingEncodeEntry, fpsAsCodeEntry, fpsFromIntEntry, fpsAsF32Entry, smpteReadEntry, smpteEncodeEntry, smpteSecondF32Entry, smptePositionEntry, bendAsIntEntry, bendAsF32Entry, bendAsF64Entry, eventReadEntry, eventLengthEntry, eventWriteEntry, listReadEntry, listLengthEntry, listWriteEntry, eventSameEntry, listSameEntry, soundingAfterEntry, soundingCountsEntry, soundingSilenceEntry}
+use Rattle.claims.specs.EntryCalls.{numberReadEntry, numberWriteEntry, payloadReadEntry, payloadWriteEntry, formatReadEntry, formatEncodeEntry, timingReadEntry, timingEncodeEntry, fpsAsCodeEntry, fpsFromIntEntry, fpsAsF32Entry, smpteReadEntry, smpteEncodeEntry, smpteSecondF32Entry, smptePositionEntry, bendAsIntEntry, bendAsF32Entry, bendAsF64Entry, eventReadEntry, eventLengthEntry, eventWriteEntry, listReadEntry, listLengthEntry, listWriteEntry, eventSameEntry, listSameEntry, soundingAfterEntry, soundingCountsEntry, soundingSilenceEntry, bankReadEntry, bankTrackEntry, bankListEntry, bankWriteEntry}
 
 -- `loader`: numbers, payloads, and the rules of a call
 pub record NumberEntries : Type 0 where
@@ -101,6 +102,18 @@ pub record SoundingEntries : Type 0 where
   pub sounding-silence : OneOutcome player.entries.«apk_sounding_silence».Reads.Learnt
       (soundingSilenceEntry (λ table channel key rows count r. r & rows .after & count .after))
 
+-- `bank`: a bank of programs
+pub record BankEntries : Type 0 where
+  pub bank-read : OneOutcome bank.entries.«apk_bank_read».Reads.Learnt
+      (bankReadEntry (λ block ranges count r. r & ranges .after & count .after))
+  pub bank-track : OneOutcome bank.entries.«apk_bank_track».Reads.Learnt
+      (bankTrackEntry (λ block index start length r. r & start .after & length .after))
+  pub bank-list : OneOutcome bank.entries.«apk_bank_list».Reads.Learnt
+      (bankListEntry (λ block index bits rows count place after padding r.
+      r & rows .after & count .after & place .after & after .after & padding .after))
+  pub bank-write : OneOutcome bank.entries.«apk_bank_write».Reads.Learnt
+      (bankWriteEntry (λ bytes ranges count out total r. r & out .after & total .after))
+
 -- `rows`: a list read into rows of numbers
 pub record Sheets : Type 0 where
   pub read-rows : OneOutcome rows.lists.«read_rows».Reads.Learnt (readRowsCall (λ raw at running rules cells r end. r & end))
@@ -119,5 +132,6 @@ pub record Entries : Type 0 where
   pub lists : ListEntries
   pub sameness : Sameness
   pub sounding : SoundingEntries
+  pub banks : BankEntries
   pub sheets : Sheets
   pub handed-over : HandedOver

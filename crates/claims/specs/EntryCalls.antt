@@ -8,6 +8,7 @@ use denote.Ref.{now}
 use Rattle.loader.proofs as loader
 use Rattle.loader_track.proofs as loader_track
 use Rattle.player.proofs as player
+use Rattle.bank.proofs as bank
 use Rattle.claims.specs.Calls.{Shows, Lent, whileLent, first, second, third, fourth, fifth, sixth, seventh, eighth, ninth}
 
 module _ {ℓ} {X : Type ℓ} where
@@ -148,3 +149,21 @@ module _ {ℓ} {X : Type ℓ} where
   -- `apk_sounding_silence(table, channel, key, rows, count)`
   abbrev pub soundingSilenceEntry : (List ℕ → ℕ → ℕ → Lent (List ℕ) → Lent ℕ → ℕ → X) → Shows player.entries.«apk_sounding_silence».Reads.Learnt X
   soundingSilenceEntry show κs a r e = show (now (first a)) (second a) (third a) (whileLent (fourth a) (fourth e)) (whileLent (fifth a) (fifth e)) r
+
+  -- A bank of programs
+
+  -- `apk_bank_read(block, ranges, count)`
+  abbrev pub bankReadEntry : (List ℕ → Lent (List ℕ) → Lent ℕ → ℕ → X) → Shows bank.entries.«apk_bank_read».Reads.Learnt X
+  bankReadEntry show κs a r e = show (now (first a)) (whileLent (second a) (second e)) (whileLent (third a) (third e)) r
+
+  -- `apk_bank_track(block, index, start, length)`
+  abbrev pub bankTrackEntry : (List ℕ → ℕ → Lent ℕ → Lent ℕ → ℕ → X) → Shows bank.entries.«apk_bank_track».Reads.Learnt X
+  bankTrackEntry show κs a r e = show (now (first a)) (second a) (whileLent (third a) (third e)) (whileLent (fourth a) (fourth e)) r
+
+  -- `apk_bank_list(block, index, bits, rows, count, place, after, padding)`
+  abbrev pub bankListEntry : (List ℕ → ℕ → ℕ → Lent (List ℕ) → Lent ℕ → Lent ℕ → Lent ℕ → Lent ℕ → ℕ → X) → Shows bank.entries.«apk_bank_list».Reads.Learnt X
+  bankListEntry show κs a r e = show (now (first a)) (second a) (third a) (whileLent (fourth a) (fourth e)) (whileLent (fifth a) (fifth e)) (whileLent (sixth a) (sixth e)) (whileLent (seventh a) (seventh e)) (whileLent (eighth a) (eighth e)) r
+
+  -- `apk_bank_write(bytes, ranges, count, out, total)`
+  abbrev pub bankWriteEntry : (List ℕ → List ℕ → ℕ → Lent (List ℕ) → Lent ℕ → ℕ → X) → Shows bank.entries.«apk_bank_write».Reads.Learnt X
+  bankWriteEntry show κs a r e = show (now (first a)) (now (second a)) (third a) (whileLent (fourth a) (fourth e)) (whileLent (fifth a) (fifth e)) r

@@ -1,4 +1,4 @@
--- Point 1 of the exported entries, which is what is linked: each accepts, or refuses by a number of document 01's table, one of its own; a refusal
+-- Point 1 of the exported entries, which is what is linked: each accepts, or refuses by a number of the table in documents 01 and 02, one of its own; a refusal
 -- leaves what was lent as it came, but for what document 01 says of one event that is read and of lists. Entries that refuse nothing have no line.
 use mathlib.Core.Path.{_≡_}
 use mathlib.Core.Bool.{true}
@@ -6,7 +6,9 @@ use mathlib.Core.List.{List, [], _∷_}
 use mathlib.Core.Logic.{_⊎_}
 use Prim.Native.Nat.{ℕ, _+_, _≤_, _<_}
 use lib.ListN.{length, drop}
+use Rattle.smf.specs.Answer.{gives}
 use Rattle.smf.specs.Number.{readNumber}
+use Rattle.smf.specs.Place.{Span, inside, bytesOf}
 use Rattle.smf.specs.Write.{over}
 use Rattle.smf.specs.Lists.{ListAt}
 use Rattle.track.specs.List.{capacity}
@@ -17,10 +19,13 @@ use Rattle.loader_track.specs.Lists.{stopNumber}
 use Rattle.loader.proofs as loader
 use Rattle.loader_track.proofs as loader_track
 use Rattle.player.proofs as player
+use Rattle.bank.specs.Bank.{mostTracks}
+use Rattle.bank.specs.Read.{trackAt}
+use Rattle.bank.proofs as bank
 use Rattle.claims.specs.Calls.{Always, Lent}
-use Rattle.claims.specs.EntryCalls.{numberReadEntry, numberWriteEntry, payloadReadEntry, payloadWriteEntry, formatReadEntry, formatEncodeEntry, timingReadEntry, timingEncodeEntry, fpsAsCodeEntry, fpsFromIntEntry, fpsAsF32Entry, smpteNewEntry, smpteReadEntry, smpteEncodeEntry, smpteSecondF32Entry, smptePositionEntry, bendAsIntEntry, bendAsF32Entry, bendAsF64Entry, eventReadEntry, eventLengthEntry, eventWriteEntry, listReadEntry, listLengthEntry, listWriteEntry, eventSameEntry, listSameEntry, soundingAfterEntry, soundingSilenceEntry}
+use Rattle.claims.specs.EntryCalls.{numberReadEntry, numberWriteEntry, payloadReadEntry, payloadWriteEntry, formatReadEntry, formatEncodeEntry, timingReadEntry, timingEncodeEntry, fpsAsCodeEntry, fpsFromIntEntry, fpsAsF32Entry, smpteNewEntry, smpteReadEntry, smpteEncodeEntry, smpteSecondF32Entry, smptePositionEntry, bendAsIntEntry, bendAsF32Entry, bendAsF64Entry, eventReadEntry, eventLengthEntry, eventWriteEntry, listReadEntry, listLengthEntry, listWriteEntry, eventSameEntry, listSameEntry, soundingAfterEntry, soundingSilenceEntry, bankReadEntry, bankTrackEntry, bankListEntry, bankWriteEntry}
 use Rattle.claims.specs.EntrySays.{Unchanged, Outcome, AnswersBy, said, saidList, entryEventLeft, entrySizeLeft, entryListLeft}
-use Rattle.claims.specs.Table.{among, OneOf, ofNumber, ofPayload, ofEvent, ofLength, ofWriting, ofListLength, ofListWriting}
+use Rattle.claims.specs.Table.{among, OneOf, ofNumber, ofPayload, ofEvent, ofLength, ofWriting, ofListLength, ofListWriting, ofBank, ofBankTrack, ofBankWriting}
 use Rattle.claims.specs.Stands.{statusLeft, ListStands}
 use Rattle.claims.specs.Leaves.{EventLeaves, SizeLeaves, ListLeaves}
 
@@ -121,6 +126,21 @@ pub record SoundingRefusals : Type 0 where
   pub sounding-silence : Always player.entries.«apk_sounding_silence».Reads.Learnt (soundingSilenceEntry (λ table channel key rows count r.
       AnswersBy (18 ∷ 20 ∷ []) r (Unchanged rows × (count .after ≡ 0))))
 
+-- document 02, Q-3: by which numbers a bank of programs is refused, and a track of it; a refusal leaves all that was lent as it came
+pub record BankRefusals : Type 0 where
+  pub bank-read : Always bank.entries.«apk_bank_read».Reads.Learnt (bankReadEntry (λ block ranges count r.
+      AnswersBy ofBank r (Unchanged ranges × Unchanged count)))
+  pub bank-track : Always bank.entries.«apk_bank_track».Reads.Learnt (bankTrackEntry (λ block index start long r.
+      AnswersBy ofBankTrack r (Unchanged start × Unchanged long)))
+  -- a track, listed: a refusal of the bank or of the index changes nothing; else it is what `apk_list_read` says of the bytes of that index's range by
+  -- themselves, from the first on and from no running status
+  pub bank-list : Always bank.entries.«apk_bank_list».Reads.Learnt (bankListEntry (λ block index bits rows count place after padding r.
+      (OneOf ofBankTrack r × Unchanged rows × Unchanged count × Unchanged place × Unchanged after × Unchanged padding)
+      ⊎ ((track : Span) × (trackAt mostTracks block index ≡ gives track) × (inside block track ≡ true)
+      × ((l : ListAt) × ListStands (fromBits bits) (bytesOf block track) capacity 0 0 l × ListTold l rows count place after padding r))))
+  pub bank-write : Always bank.entries.«apk_bank_write».Reads.Learnt (bankWriteEntry (λ bytes ranges count out total r.
+      AnswersBy ofBankWriting r (Unchanged out × Unchanged total)))
+
 -- all of them
 pub record EntryPoint1 : Type 0 where
   pub numbers : NumberRefusals
@@ -130,3 +150,4 @@ pub record EntryPoint1 : Type 0 where
   pub tracks : TrackRefusals
   pub sameness : SameRefusals
   pub sounding : SoundingRefusals
+  pub banks : BankRefusals

@@ -15,6 +15,7 @@ use Rattle.same.proofs as same
 use Rattle.loader.proofs as loader
 use Rattle.loader_track.proofs as loader_track
 use Rattle.player.proofs as player
+use Rattle.bank.proofs as bank
 
 -- what a function asks holds, whatever the lifetimes of what is lent to it and its arguments are
 abbrev pub Any : {L : Type 0} {A : L → Type 0} → ((κs : L) → A κs → Type 0) → Type 0
@@ -60,6 +61,8 @@ pub record AnyNumber : Type 0 where
   pub write-varlen : Any number.u28.«write_varlen».Reads.Asked
   pub read-varlen-slice : Any number.payload.«read_varlen_slice».Reads.Asked
   pub write-varlen-slice : Any number.payload.«write_varlen_slice».Reads.Asked
+  pub is-inside : Any number.payload.«is_inside».Reads.Asked
+  pub write-slice : Any number.payload.«write_slice».Reads.Asked
 
 -- `header`: header fields, rates, SMPTE times
 pub record AnyHeader : Type 0 where
@@ -197,6 +200,17 @@ pub record AnyPlayer : Type 0 where
   pub sounding-counts : Any player.entries.«apk_sounding_counts».Reads.Asked
   pub sounding-silence : Any player.entries.«apk_sounding_silence».Reads.Asked
 
+-- `bank`: a bank of programs, and the entries for it
+pub record AnyBank : Type 0 where
+  pub read-bank : Any bank.read.«read_bank».Reads.Asked
+  pub bank-track : Any bank.read.«bank_track».Reads.Asked
+  pub list-track : Any bank.list.«list_track».Reads.Asked
+  pub write-bank : Any bank.writing.«write_bank».Reads.Asked
+  pub bank-read : Any bank.entries.«apk_bank_read».Reads.Asked
+  pub bank-track-entry : Any bank.entries.«apk_bank_track».Reads.Asked
+  pub bank-list : Any bank.entries.«apk_bank_list».Reads.Asked
+  pub bank-write : Any bank.entries.«apk_bank_write».Reads.Asked
+
 -- all of them
 pub record EveryInput : Type 0 where
   pub base : AnyBase
@@ -212,3 +226,4 @@ pub record EveryInput : Type 0 where
   pub loader : AnyLoader
   pub loader-track : AnyLoaderTrack
   pub player : AnyPlayer
+  pub bank : AnyBank

@@ -11,7 +11,8 @@ use Rattle.rows.proofs as rows
 use Rattle.write.proofs as write
 use Rattle.same.proofs as same
 use Rattle.player.proofs as player
-use Rattle.claims.specs.Calls.{OneAnswer, OneOutcome, writeVarlenCall, writeVarlenSliceCall, writeEventCall, writeRowCall, writeListCall, writeRowsCall, afterCall, silenceCall, _&_}
+use Rattle.bank.proofs as bank
+use Rattle.claims.specs.Calls.{OneAnswer, OneOutcome, writeVarlenCall, writeVarlenSliceCall, writeSliceCall, writeEventCall, writeRowCall, writeListCall, writeRowsCall, afterCall, silenceCall, writeBankCall, _&_}
 
 -- `base`, `number`: restricted numbers, refusals, the running status, variable-length numbers and payloads
 pub record Numbers : Type 0 where
@@ -50,6 +51,8 @@ pub record Numbers : Type 0 where
   pub write-varlen : OneOutcome number.u28.«write_varlen».Reads.Learnt (writeVarlenCall (λ self out at r end. r & end))
   pub read-varlen-slice : OneAnswer number.payload.«read_varlen_slice».Reads.Learnt
   pub write-varlen-slice : OneOutcome number.payload.«write_varlen_slice».Reads.Learnt (writeVarlenSliceCall (λ bytes slice out at r end. r & end))
+  pub is-inside : OneAnswer number.payload.«is_inside».Reads.Learnt
+  pub write-slice : OneOutcome number.payload.«write_slice».Reads.Learnt (writeSliceCall (λ bytes slice out at r end. r & end))
 
 -- `header`: `Format`, `Timing`, `Fps`, `SmpteTime`, and the words and signed bytes that they are made of
 pub record Headers : Type 0 where
@@ -128,6 +131,13 @@ pub record Notes : Type 0 where
   pub after : OneOutcome player.notes.after.Reads.Learnt (afterCall (λ table list r answer. r & answer))
   pub silence : OneOutcome player.silence.silence.Reads.Learnt (silenceCall (λ table channel key r answer. r & answer))
 
+-- `bank`: a bank of programs, read and written, and its tracks, asked for and listed
+pub record Programs : Type 0 where
+  pub read-bank : OneAnswer bank.read.«read_bank».Reads.Learnt
+  pub bank-track : OneAnswer bank.read.«bank_track».Reads.Learnt
+  pub list-track : OneAnswer bank.list.«list_track».Reads.Learnt
+  pub write-bank : OneOutcome bank.writing.«write_bank».Reads.Learnt (writeBankCall (λ bytes ranges count out r end. r & end))
+
 -- all of them
 pub record Identical : Type 0 where
   pub numbers : Numbers
@@ -136,3 +146,4 @@ pub record Identical : Type 0 where
   pub events : Events
   pub lists : Lists
   pub notes : Notes
+  pub programs : Programs

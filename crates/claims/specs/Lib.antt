@@ -1,4 +1,4 @@
--- What is claimed: document 01's statements, each as a type that proofs/ has an element of.
+-- What is claimed: the statements of documents 01 and 02, each as a type that proofs/ has an element of.
 pub mod Calls
 pub mod EntryCalls
 pub mod Table
@@ -19,5 +19,6 @@ pub mod EntryPoint3
 pub mod Sounding
 pub mod SmfForms
 pub mod Padding
+pub mod Bank
 pub mod Literals
 pub mod All

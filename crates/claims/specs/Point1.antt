@@ -1,4 +1,4 @@
--- Point 1: whatever is read or written, the answer is an acceptance, or a refusal by a number of document 01's table; a refused write alters
+-- Point 1: whatever is read or written, the answer is an acceptance, or a refusal by a number of the table in documents 01 and 02; a refused write alters
 -- no byte of the output. That every call ends is proved of each function; that every input gets an answer says `EveryInput.antt`.
 use mathlib.Core.Path.{_≡_}
 use mathlib.Core.Bool.{true}
@@ -30,8 +30,10 @@ use Rattle.write.specs.Size.{lengthSaid}
 use Rattle.write.specs.Wrote.{wroteEvent}
 use Rattle.write.specs.ListAnswers.{sizeSaid, wroteList}
 use Rattle.write.proofs as write
-use Rattle.claims.specs.Calls.{Always, ReadU7, WriteVarlen, ReadVarlenSlice, WriteVarlenSlice, MetaMessageRead, TrackEventRead, EventListRead, WriteEvent, WriteRow, ListLength, WriteList, RowsLength, WriteRows, After, Silence}
-use Rattle.claims.specs.Table.{inTable, By, Keeps, ofNumber, ofPayload, ofMeta, ofLength}
+use Rattle.bank.specs.Bank.{mostTracks}
+use Rattle.bank.specs.Answers.{heldTracks, bankOf, verdictOf, bankTrack, emptyList, bankWrote}
+use Rattle.claims.specs.Calls.{Always, ReadU7, WriteVarlen, ReadVarlenSlice, WriteVarlenSlice, MetaMessageRead, TrackEventRead, EventListRead, WriteEvent, WriteRow, ListLength, WriteList, RowsLength, WriteRows, After, Silence, WriteSlice, BankRead, BankTrack, ListTrack, WriteBank}
+use Rattle.claims.specs.Table.{inTable, By, Keeps, ofNumber, ofPayload, ofMeta, ofLength, ofBank, ofBankTrack, ofBankWriting}
 use Rattle.claims.specs.EntrySays.{AnswersBy}
 use Rattle.claims.specs.Stands.{EventOrLeft, ListStands}
 use Rattle.claims.specs.Leaves.{EventLeaves, SizeLeaves, ListLeaves}
@@ -101,3 +103,11 @@ pub record Point1 : Type 0 where
   -- document 02, Q-1: a list that a table is given, 21 or 18, and the table as it came; a channel or key asked for, 18, and an empty list
   pub after : After (λ table list left number. AnswersBy (18 ∷ 21 ∷ []) number (left ≡ table))
   pub silence : Silence (λ table channel key list number. AnswersBy (18 ∷ []) number (heldOf list ≡ holding capacity []))
+  -- a range of the bytes lent, written as it stands: 19 outside them, 20 no room
+  pub write-slice : WriteSlice (λ bytes slice out at r end. Keeps (19 ∷ 20 ∷ []) (writtenTo r) out end)
+  -- document 02, Q-3: a block that is no bank, and a bank of no tracks; a track of a bank, 34 last, and then an empty list where it is listed; a bank that
+  -- is written, and every byte as it came
+  pub read-bank : BankRead (λ block r. Keeps ofBank (verdictOf (r .verdict)) (heldTracks mostTracks []) (bankOf (r .bank)))
+  pub bank-track : BankTrack (λ block index r. By ofBankTrack (bankTrack r))
+  pub list-track : ListTrack (λ block index rules r. Keeps ofBankTrack (verdictOf (r .verdict)) (emptyList capacity) (listRead (r .read)))
+  pub write-bank : WriteBank (λ bytes ranges count out r end. Keeps ofBankWriting (bankWrote r) out end)

@@ -1,4 +1,4 @@
--- Document 01, "Refusal numbers": the table, and the numbers of it by which each thing is refused.
+-- Documents 01 and 02, "Refusal numbers": the table, and the numbers of it by which each thing is refused.
 use mathlib.Core.Path.{_≡_}
 use mathlib.Core.Bool.{Bool, true, false, _&&_, _||_}
 use mathlib.Core.List.{List, [], _∷_}
@@ -6,9 +6,9 @@ use Prim.Native.Nat.{ℕ}
 use lib.Dec.{leb, eqb}
 use Rattle.smf.specs.Answer.{pick, Answer, gives, refuses}
 
--- the table has the numbers 1 to 23
+-- the table has the numbers 1 to 26, and 34; documents 01 and 02
 abbrev pub inTable : ℕ → Bool
-inTable n = leb 1 n && leb n 23
+inTable n = (leb 1 n && leb n 26) || eqb n 34
 
 -- whether a number is one of these
 abbrev pub among : List ℕ → ℕ → Bool
@@ -64,3 +64,15 @@ ofListLength = 1 ∷ 21 ∷ ofLegality
 
 abbrev pub ofListWriting : List ℕ
 ofListWriting = 1 ∷ 20 ∷ 21 ∷ ofLegality
+
+-- document 02, Q-3: a block that is no bank: 24 shorter than its header and entries, 25 too many tracks, 26 any other disagreement
+abbrev pub ofBank : List ℕ
+ofBank = 24 ∷ 25 ∷ 26 ∷ []
+
+-- a track of a bank: 34 no such index
+abbrev pub ofBankTrack : List ℕ
+ofBankTrack = 34 ∷ ofBank
+
+-- a bank that is written: 25 too many tracks, 19 a range outside the bytes, 20 above the most bytes or the room
+abbrev pub ofBankWriting : List ℕ
+ofBankWriting = 19 ∷ 20 ∷ 25 ∷ []

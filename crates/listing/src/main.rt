@@ -1,8 +1,10 @@
 // Document 01, "Listing program", with the padding of document 02, Q-2: standard input, read leniently as one list from
-// no running status, a line for each event.
+// no running status, a line for each event. With an argument standard input is a bank, document 02, Q-3.
+mod banks;
 mod kinds;
 mod text;
 
+use crate::banks::told;
 use crate::kinds::kind;
 use crate::text::byte;
 use crate::text::line_end;
@@ -16,7 +18,8 @@ use track::list::EventList;
 use track::list::Record;
 use track::read::ReadList;
 
-// The most bytes that are listed.
+// The most bytes that are listed. They are no fewer than a bank may have, `bank::LARGEST`, so that one byte more shows
+// that a bank is too long.
 const LONGEST: usize = 65536;
 
 // Why reading stopped: a word, or the number of a refusal.
@@ -66,11 +69,23 @@ fn lines(list: EventList) {
     }
 }
 
-// Reads standard input and lists it.
+// The text of a list that was read.
+pub fn listed(read: ReadList) {
+    let list = read.list;
+    summary(read);
+    lines(list);
+}
+
+// Reads standard input and lists it. Of a bank that is too long the bytes that are read are too long too, and have its
+// count, so that they are refused by its number.
 fn main() {
     // one byte more than is listed, to see that there is more
     let mut buffer = [0u8; LONGEST + 1];
     let length = io::read_full(0, &mut buffer);
+    if 1 < os::arg_count() {
+        told(&buffer[..length]);
+        return;
+    }
     if LONGEST < length {
         word(b"too long");
         line_end();
@@ -82,7 +97,5 @@ fn main() {
         Running { status: 0 },
         Rules { strict: false },
     );
-    let list = read.list;
-    summary(read);
-    lines(list);
+    listed(read);
 }

@@ -4,3 +4,4 @@ pub mod NumberWrites
 pub mod IdenticalPayloads
 pub mod PayloadReads
 pub mod PayloadCopy
+pub mod Inside

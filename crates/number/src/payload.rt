@@ -2,8 +2,8 @@
 ghost use mathlib.Core.Path.{_≡_};
 ghost use Prim.Native.Nat.{_+_, _-_, _≤_};
 ghost use lib.ListN.{length, take, drop};
-ghost use Rattle.smf.specs.Place.{payloadAt};
-ghost use Rattle.smf.specs.Write.{over, write, payloadBytes};
+ghost use Rattle.smf.specs.Place.{inside, payloadAt};
+ghost use Rattle.smf.specs.Write.{over, write, part, payloadBytes};
 ghost use Rattle.base.specs.Rules.{rulesOf};
 ghost use Rattle.number.specs.Varlen.{writeLeft};
 ghost use Rattle.number.specs.Payload.{sliceRead};
@@ -79,6 +79,35 @@ fn copy_part(bytes: &[u8], start: usize, n: usize, out: &mut [u8], at: usize)
     }
 }
 
+// Whether a range is inside the bytes lent: a start beyond their end is not, even at length 0.
+pub fn is_inside(bytes: &[u8], slice: Range) -> bool
+    ensures { λ r. ⌜ r ≡ inside (now (bytes .entry)) (record { start = slice .start; length = slice .length }) ⌝ }
+{
+    if bytes.len() < slice.length {
+        return false;
+    }
+    slice.start <= bytes.len() - slice.length
+}
+
+// Writes a range of the bytes lent as it stands, at a place of a lent buffer: 19 where it is not inside the bytes, 20
+// where there is no room.
+pub fn write_slice(bytes: &[u8], slice: Range, out: &mut [u8], at: usize) -> WroteNumber
+    ensures { λ r. ⌜ writeLeft r (now (out .exit)) ≡ write (part (now (bytes .entry)) (record { start = slice .start; length = slice .length })) (now (out .entry)) at ⌝ }
+{
+    let n = slice.length;
+    if !is_inside(bytes, slice) {
+        return WroteNumber::Refused(Refusal::PayloadOutside);
+    }
+    if out.len() < n {
+        return WroteNumber::Refused(Refusal::NoRoom);
+    }
+    if out.len() - n < at {
+        return WroteNumber::Refused(Refusal::NoRoom);
+    }
+    copy_part(bytes, slice.start, n, out, at);
+    WroteNumber::Next(at + n)
+}
+
 // Writes a range of the bytes lent as a payload, with its number in front, at a place of a lent buffer. All that can be
 // refused is looked at before the first byte is written.
 pub fn write_varlen_slice(bytes: &[u8], slice: Range, out: &mut [u8], at: usize) -> WroteNumber
@@ -86,10 +115,7 @@ pub fn write_varlen_slice(bytes: &[u8], slice: Range, out: &mut [u8], at: usize)
 {
     let start = slice.start;
     let n = slice.length;
-    if bytes.len() < n {
-        return WroteNumber::Refused(Refusal::PayloadOutside);
-    }
-    if bytes.len() - n < start {
+    if !is_inside(bytes, slice) {
         return WroteNumber::Refused(Refusal::PayloadOutside);
     }
     if 0xFFF_FFFF < n {

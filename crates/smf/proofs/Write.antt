@@ -6,12 +6,12 @@ use Prim.Native.Nat.{ℕ, _+_, _-_, _^_, _≤_, _<_}
 use native.Mathlib.Omega.{arith}
 use lib.ListN.{length, take, drop, length-append, length-take, length-drop}
 use lib.Seq.{take-at, drop-drop, drop-append-add, length-take-le}
-use borrow.Author.Tests.{le-leb, lt-leb, lt-ltb, le-ltb}
+use borrow.Author.Tests.{leb-true, leb-false, le-leb, lt-leb, lt-ltb, le-ltb}
 use Rattle.smf.specs.Answer.{pick, Answer, gives, refuses, andThen}
 use Rattle.smf.specs.Width.{tryWidth}
 use Rattle.smf.specs.Number.{encodeNumber}
 use Rattle.smf.specs.Payload.{encodePayload}
-use Rattle.smf.specs.Place.{inside, bytesOf}
+use Rattle.smf.specs.Place.{Span, inside, bytesOf}
 use Rattle.smf.specs.Write.{Written, over, left, put, write, numberBytes, part, loadBytes, payloadBytes}
 
 module _ (bs s : List ℕ) (at : ℕ) where
@@ -48,6 +48,41 @@ number-bytes-wide v h = rw (le-ltb v (2 ^ 28) h)
 pub number-bytes : (v : ℕ) → v < 2 ^ 28 → numberBytes v ≡ gives (encodeNumber v)
 unfolding numberBytes tryWidth
 number-bytes v h = rw (lt-ltb v (2 ^ 28) h)
+
+-- what it is for a range to be inside the bytes, or not
+pub inside-within : (bytes : List ℕ) (span : Span) → inside bytes span ≡ true → span .start + span .length ≤ length bytes
+unfolding inside
+inside-within bytes span e = leb-true _ _ e
+
+pub inside-beyond : (bytes : List ℕ) (span : Span) → inside bytes span ≡ false → length bytes < span .start + span .length
+unfolding inside
+inside-beyond bytes span e = leb-false _ _ e
+
+-- a range that is inside has its length
+pub part-length : (bytes : List ℕ) (span : Span) → span .start + span .length ≤ length bytes → length (bytesOf bytes span) ≡ span .length
+unfolding bytesOf
+part-length bytes span h = length-take-le (span .length) (drop (span .start) bytes) (omega (arith, length-drop (span .start) bytes))
+
+-- a range's bytes, written as they stand
+module _ (bytes : List ℕ) (span : Span) (s : List ℕ) (at : ℕ) where
+  pub slice-outside : inside bytes span ≡ false → left s 19 ≡ write (part bytes span) s at
+  unfolding part
+  slice-outside e = rw e
+
+  module _ (is : inside bytes span ≡ true) where
+    pub slice-long : length (bytesOf bytes span) ≡ span .length
+    slice-long = part-length bytes span (inside-within bytes span is)
+
+    pub slice-full : length s < at + span .length → left s 20 ≡ write (part bytes span) s at
+    unfolding part
+    slice-full h = rw is (put-full (bytesOf bytes span) s at (omega (arith, slice-long)))
+
+    pub slice-fits : at + span .length ≤ length s → (end : List ℕ) → end ≡ over (bytesOf bytes span) s at
+        → record { buffer = end; answer = gives (at + span .length) } ≡ write (part bytes span) s at
+    unfolding part
+    slice-fits h end e =
+        rw (is, e) (ap (λ (n : ℕ). record { buffer = over (bytesOf bytes span) s at; answer = gives (at + n) }) (sym slice-long)
+        ∙ put-fits (bytesOf bytes span) s at (omega (arith, slice-long)))
 
 module _ (bytes : List ℕ) (start n : ℕ) where
   pub part-outside : length bytes < start + n → payloadBytes bytes start n ≡ refuses 19

@@ -5,25 +5,20 @@ use mathlib.Core.List.{List, []}
 use Prim.Native.Nat.{ℕ, _+_, _^_, _≤_, _<_}
 use native.Mathlib.Omega.{arith}
 use lib.Dec.{leb, ltb}
-use lib.ListN.{length, take, drop, length-drop}
+use lib.ListN.{length}
 use lib.Seq.{length-take-le}
 use borrow.Author.Tests.{leb-true, ltb-true, le-leb, lt-leb, lt-ltb, le-ltb}
-use Rattle.smf.specs.Answer.{pick, Answer, gives, refuses}
+use Rattle.smf.specs.Answer.{pick, gives, refuses}
 use Rattle.smf.specs.Place.{Span, inside, bytesOf}
 use Rattle.smf.specs.Payload.{encodePayload}
 use Rattle.smf.proofs.Answer.{both}
-use Rattle.smf.proofs.Write.{payload-size}
+use Rattle.smf.proofs.Write.{payload-size, part-length}
 use Rattle.base.specs.Refusal.{numberOf}
 use Rattle.base.specs.declared.Refusal.{Refusal}
 use Rattle.write.specs.Raw.{lent, isLent, ownList, ownBytes, loadLength, lookedSaid, Inside}
 use Rattle.write.specs.declared.raw.Own.{Own}
 use Rattle.write.specs.declared.make.Looked.{Looked}
 use Rattle.write.specs.declared.make.Looked.the-variants as looked
-
--- a part that is inside has its length
-pub part-length : (bytes : List ℕ) (span : Span) → span .start + span .length ≤ length bytes → length (bytesOf bytes span) ≡ span .length
-unfolding bytesOf
-part-length bytes span h = length-take-le (span .length) (drop (span .start) bytes) (omega (arith, length-drop (span .start) bytes))
 
 module _ (bytes : List ℕ) (span : Span) where
   pub lent-inside : isLent bytes span ≡ true → Inside bytes span

@@ -15,12 +15,11 @@ use Rattle.smf.specs.Payload.{encodePayload}
 use Rattle.smf.specs.Write.{Written, over, put, write, payloadBytes}
 use Rattle.smf.proofs.Answer.{by-test}
 use Rattle.smf.proofs.Number.{ahead-none}
-use Rattle.smf.proofs.Write.{over-over, length-over, put-fits, part-bytes, payload-size}
+use Rattle.smf.proofs.Write.{over-over, length-over, put-fits, part-bytes, part-length, payload-size}
 use Rattle.write.specs.declared.raw.Channel.{Channel}
 use Rattle.write.specs.Raw.{statusBytes, dataBytes}
 use Rattle.write.specs.Raw.{loadLength, Inside}
 use Rattle.write.specs.Store.{Stored}
-use Rattle.write.proofs.Payloads.{part-length}
 
 pub over-none : (s : List ℕ) (at : ℕ) → s ≡ over [] s at
 over-none s at = sym (rw (add-zero at) (take-append-drop at s))

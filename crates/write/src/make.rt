@@ -24,6 +24,7 @@ use base::Refusal;
 use base::Rules;
 use header::SmpteTime;
 use header::smpte::EncodedSmpteTime;
+use number::payload::is_inside;
 
 // A channel message by its status's upper half, with one data byte, where b is 0, or with two.
 pub fn channel(upper: u64, channel: u64, pair: bool, a: u64, b: u64) -> Made
@@ -165,10 +166,7 @@ pub enum Looked {
 fn look(load: Range, bytes: &[u8]) -> Looked
     ensures { λ r. ⌜ lookedSaid r ≡ lent (now (bytes .entry)) (spanOf load) tt ⌝ }
 {
-    if bytes.len() < load.length {
-        return Looked::Refused(Refusal::PayloadOutside);
-    }
-    if bytes.len() - load.length < load.start {
+    if !is_inside(bytes, load) {
         return Looked::Refused(Refusal::PayloadOutside);
     }
     if 0x1000_0000 <= load.length {

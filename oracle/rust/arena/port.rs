@@ -1,7 +1,7 @@
 //! The port's exported entries. A slice goes over as its start and its length; the answer is a refusal's number, or
 //! 0. Beside the answer stands each value that an entry is to set: `None` where it left the value as it was.
 
-use super::sizes::{Row, Table, CHANNELS, WIDTH};
+use super::sizes::{Ranges, Row, Table, CHANNELS, WIDTH};
 
 // An answer of eight or 16 bits is declared as 32 and cut. The port's code leaves the bits above it as they come, and
 // Rust on x86-64 would take them for zeros.
@@ -57,6 +57,16 @@ extern "C" {
     fn apk_sounding_counts(table: *const Table, sounding: *mut [u8; CHANNELS]);
     fn apk_sounding_silence(
         table: *const Table, channel: u8, key: u8, rows: *mut u64, cells: usize, count: *mut usize,
+    ) -> u32;
+    fn apk_bank_read(block: *const u8, length: usize, ranges: *mut Ranges, count: *mut usize) -> u32;
+    fn apk_bank_track(block: *const u8, length: usize, index: usize, start: *mut usize, found: *mut usize) -> u32;
+    fn apk_bank_list(
+        block: *const u8, length: usize, index: usize, rules: u8,
+        rows: *mut u64, cells: usize, count: *mut usize, place: *mut usize, after: *mut u8, padding: *mut usize,
+    ) -> u32;
+    fn apk_bank_write(
+        bytes: *const u8, length: usize, ranges: *const Ranges, count: usize,
+        out: *mut u8, out_length: usize, total: *mut usize,
     ) -> u32;
     fn apk_format_read(bytes: *const u8, length: usize, format: *mut u8) -> u32;
     fn apk_format_encode(format: u8, bytes: *mut [u8; 2]) -> u32;
@@ -384,4 +394,38 @@ pub fn sounding_silence(table: &Table, channel: u8, key: u8, rows: &mut [u64]) -
     let answer =
         unsafe { apk_sounding_silence(table, channel, key, rows.as_mut_ptr(), rows.len(), &mut count) };
     (answer as u8, count)
+}
+
+/// The answer, and the count; the ranges are put where they are lent.
+pub fn bank_read(block: &[u8], ranges: &mut Ranges) -> (u8, Option<usize>) {
+    let mut count = BEFORE;
+    let answer = unsafe { apk_bank_read(block.as_ptr(), block.len(), ranges, &mut count) };
+    (answer as u8, set(count))
+}
+
+/// The answer, and the start and the length.
+pub fn bank_track(block: &[u8], index: usize) -> (u8, (Option<usize>, Option<usize>)) {
+    let (mut start, mut length) = (BEFORE, BEFORE);
+    let answer = unsafe { apk_bank_track(block.as_ptr(), block.len(), index, &mut start, &mut length) };
+    (answer as u8, (set(start), set(length)))
+}
+
+pub fn bank_list(block: &[u8], index: usize, rows: &mut [u64]) -> (u8, ListRead) {
+    let (mut count, mut place, mut after, mut padding) = (BEFORE, BEFORE, 0xFF, BEFORE);
+    let answer = unsafe {
+        apk_bank_list(
+            block.as_ptr(), block.len(), index, RULES,
+            rows.as_mut_ptr(), rows.len(), &mut count, &mut place, &mut after, &mut padding,
+        )
+    };
+    (answer as u8, (set(count), set(place), after, set(padding)))
+}
+
+/// The answer, and the total.
+pub fn bank_write(bytes: &[u8], ranges: &Ranges, count: usize, out: &mut [u8]) -> (u8, Option<usize>) {
+    let mut total = BEFORE;
+    let answer = unsafe {
+        apk_bank_write(bytes.as_ptr(), bytes.len(), ranges, count, out.as_mut_ptr(), out.len(), &mut total)
+    };
+    (answer as u8, set(total))
 }

@@ -84,27 +84,43 @@ impl Reads {
     pub fn compare(
         &mut self, entry: &mut Entry, bytes: &[u8], at: usize, running: u8, room: impl FnOnce(usize) -> usize,
     ) -> Read {
+        let (read, differs) =
+            self.compare_by(entry, bytes, at, running, room, |rows| port::list_read(bytes, at, running, rows));
+        if let Some((answers, room)) = differs {
+            if entry.is_new(answers) {
+                smaller(entry, bytes, at, running, room);
+            }
+        }
+        read
+    }
+
+    /// The same with another entry of the port's, which is to read these bytes too. Where it differs, the two answers
+    /// and how many cells were lent come with what the Rust read.
+    pub fn compare_by(
+        &mut self, entry: &mut Entry, bytes: &[u8], at: usize, running: u8, room: impl FnOnce(usize) -> usize,
+        port: impl FnOnce(&mut [u64]) -> (u8, port::ListRead),
+    ) -> (Read, Option<((u8, u8), usize)>) {
         let read = rust_reads(bytes, at, running, &mut self.rust);
         let room = room(read.cells);
         if room >= read.cells {
             count(entry, &read, &self.rust);
         }
-        let (rust, port) = self.answers(&read, bytes, at, running, room);
+        let (rust, port) = self.answers(&read, room, port);
         let answers = (rust.0, port.0);
-        if entry.compare(rust, port, bytes.len(), || told(bytes, at, running, room)) {
+        let differs = entry.compare(rust, port, bytes.len(), || told(bytes, at, running, room));
+        if differs {
             self.port.iter_mut().for_each(|cell| *cell = CELL);
-            if entry.is_new(answers) {
-                smaller(entry, bytes, at, running, room);
-            }
         }
         self.rust[..read.cells].iter_mut().for_each(|cell| *cell = CELL);
         self.port[..read.cells].iter_mut().for_each(|cell| *cell = CELL);
-        read
+        (read, Some((answers, room)).filter(|_| differs))
     }
 
     /// What the Rust and the port answer. Too few cells are left as they came.
-    fn answers(&mut self, read: &Read, bytes: &[u8], at: usize, running: u8, room: usize) -> (Answer, Answer) {
-        let port = port::list_read(bytes, at, running, &mut self.port[..room]);
+    fn answers(
+        &mut self, read: &Read, room: usize, port: impl FnOnce(&mut [u64]) -> (u8, port::ListRead),
+    ) -> (Answer, Answer) {
+        let port = port(&mut self.port[..room]);
         let (why, set) = if room < read.cells {
             self.rust[..read.cells].iter_mut().for_each(|cell| *cell = CELL);
             (20, (None, None, 0xFF, None))
@@ -121,7 +137,7 @@ impl Reads {
 }
 
 /// Cells that are just enough, some more, or in one of eight too few.
-fn room(random: &mut Random, need: usize) -> usize {
+pub fn room(random: &mut Random, need: usize) -> usize {
     match random.below(8) {
         0 => random.below(need + 1),
         1..=3 => need,
@@ -150,7 +166,7 @@ fn smaller(entry: &mut Entry, bytes: &[u8], at: usize, running: u8, room: usize)
     let answers = |bytes: &[u8], at: usize| {
         let mut it = Reads::new();
         let read = rust_reads(bytes, at, running, &mut it.rust);
-        let (rust, port) = it.answers(&read, bytes, at, running, room);
+        let (rust, port) = it.answers(&read, room, |rows| port::list_read(bytes, at, running, rows));
         Some((rust.0, port.0)).filter(|_| rust != port)
     };
     let whole = answers(bytes, at);
@@ -159,7 +175,7 @@ fn smaller(entry: &mut Entry, bytes: &[u8], at: usize, running: u8, room: usize)
     let least = shrink::bytes(bytes, |bytes| answers(bytes, at) == whole);
     let mut it = Reads::new();
     let read = rust_reads(&least, at, running, &mut it.rust);
-    let (rust, port) = it.answers(&read, &least, at, running, room);
+    let (rust, port) = it.answers(&read, room, |rows| port::list_read(&least, at, running, rows));
     entry.show(rust, port, least.len(), || told(&least, at, running, room));
 }
 

@@ -3,7 +3,7 @@
 use std::{collections::BTreeMap, fmt};
 
 /// One more than the highest number of a refusal.
-const NUMBERS: usize = 24;
+const NUMBERS: usize = 35;
 /// Of how many differences with the same two answers a smaller input is looked for.
 const SHRUNK: u64 = 20;
 

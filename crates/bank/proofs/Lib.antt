@@ -1,0 +1,15 @@
+pub mod FourBytes
+pub mod Tested
+pub mod Encoded
+pub mod Filling
+pub mod OneForm
+pub mod Identical
+pub mod Gaps
+pub mod Tracks
+pub mod Answered
+pub mod Rest
+pub mod Measured
+pub mod Stores
+pub mod Putting
+pub mod Cells
+pub mod Written
