@@ -1,6 +1,6 @@
 -- What is read as a bank is the bank of its tracks: one form alone, so that no other block reads as the same tracks.
 use mathlib.Core.Path.{_≡_, refl, sym, ap, _∙_}
-use mathlib.Core.Bool.{Bool, true, false, _&&_, _||_}
+use mathlib.Core.Bool.{Bool, true, _&&_, _||_}
 use mathlib.Core.List.{List, [], _∷_, _++_, flatten}
 use Prim.Native.Nat.{ℕ, zero, suc, _+_, _*_, _≤_, _<_}
 use native.Mathlib.Omega.{arith}
@@ -11,18 +11,13 @@ use borrow.Author.Tests.{leb-true, le-leb, le-ltb, eqb-true}
 use Rattle.smf.specs.Answer.{Answer, unless, gives}
 use Rattle.smf.specs.Place.{Span, inside, bytesOf}
 use Rattle.smf.specs.Event.{noSpan}
-use Rattle.smf.proofs.Answer.{both}
+use Rattle.smf.proofs.Answer.{both, held}
 use Rattle.smf.proofs.Write.{part-length}
 use Rattle.bank.specs.Bank.{mostBytes, fourBytes, behindEntries, entries, bankLength, encodeBank}
 use Rattle.bank.specs.Read.{wideAt, countOf, totalOf, entryAt, ranges, entriesOf, noGap, agrees, readBank}
 use Rattle.bank.specs.Write.{allInside, tracksOf}
 use Rattle.bank.proofs.FourBytes.{drop-four}
 use Rattle.bank.proofs.Filling.{ranges-length}
-
--- what a test asked for holds where something is given
-held : {A : Type 0} (t : Bool) (n : ℕ) (a : Answer A) {x : A} → unless t n a ≡ gives x → (t ≡ true) × (a ≡ gives x)
-held true n a e = (refl, e)
-held false n a e = let z : _≡_ {A = ℕ} 0 1 = cc in absurd (omega arith)
 
 -- what is known of a block that is read as a bank
 record Accepted (most : ℕ) (block : List ℕ) (spans : List Span) : Type 0 where

@@ -8,14 +8,13 @@ use lib.ListN.{length, getD, length-append, length-map}
 use Rattle.smf.specs.Answer.{gives, refuses}
 use Rattle.smf.specs.Place.{Span, inside, bytesOf}
 use Rattle.smf.specs.Write.{put}
-use Rattle.smf.proofs.Answer.{by-answer, by-lt}
+use Rattle.smf.proofs.Answer.{by-answer, by-lt, ungiven}
 use Rattle.bank.specs.Bank.{mostBytes, fourBytes, behindEntries, entries, bankLength, encodeBank, IsBank}
 use Rattle.bank.specs.Read.{wideAt, entryAt, ranges, entriesOf, noGap, agrees, readBank, trackAt}
 use Rattle.bank.specs.Write.{allInside, tracksOf, bankBytes, rangesBank}
 use Rattle.bank.proofs.Encoded.{bank-length, bankSpans, bank-holds, bank-reads}
 use Rattle.bank.proofs.OneForm as laws
 use Rattle.bank.proofs.Tested as tested
-use Rattle.bank.proofs.Measured.{untested}
 use Rattle.claims.specs.Point3.{Bytes}
 use Rattle.claims.specs.Bank.{Unread, Worked}
 use Rattle.claims.proofs.Bytes.{both-bytes}
@@ -53,7 +52,7 @@ unread most block =
           (λ h. by-lt (length block) 4 (tested.no-count most block) (λ counted. tested.short most block counted (h .0) (h .1)));
       other = λ few long bytes none.
           by-answer (readBank most block) (λ spans e. absurd (none (tracksOf block spans) (one-form most block spans bytes e)))
-          (λ n e. e ∙ ap refuses (untested (agrees block) (entriesOf block) 26 (sym (tested.there most block (omega arith) few long) ∙ e) .1));
+          (λ n e. e ∙ ap refuses (ungiven (agrees block) (entriesOf block) 26 (sym (tested.there most block (omega arith) few long) ∙ e) .1));
     }
 
 pub unread-as : (most : ℕ) (block : List ℕ) (P Q : ℕ → Type 0) → ((n : ℕ) → P n → Q n) → Unread most block P → Unread most block Q

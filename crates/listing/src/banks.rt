@@ -1,5 +1,5 @@
 // Document 02, Q-3: a bank of programs, its tracks a line each, or one of them listed as its bytes by themselves are.
-use crate::listed;
+use crate::events::listed;
 use crate::text::byte;
 use crate::text::line_end;
 use crate::text::number;

@@ -5,7 +5,7 @@ use Prim.Native.Nat.{ℕ, _<_, _≤_}
 use native.Mathlib.Omega.{arith}
 use lib.Dec.{ltb}
 use borrow.Author.Tests.{ltb-true, ltb-false}
-use Rattle.smf.specs.Answer.{pick, Answer, gives, refuses, andThen, Rules, strictly, leniently}
+use Rattle.smf.specs.Answer.{pick, Answer, gives, refuses, unless, andThen, Rules, strictly, leniently}
 
 -- by the value of a test
 pub by-test {ℓ} : {G : Type ℓ} (t : Bool) → (t ≡ true → G) → (t ≡ false → G) → G
@@ -34,10 +34,19 @@ pub both : (a b : Bool) → (a && b) ≡ true → (a ≡ true) × (b ≡ true)
 both true b e = (refl, e)
 both false b e = absurd (true≢false (sym e))
 
+-- what is given behind a test is given because the test holds
+pub held : {A : Type 0} (t : Bool) (n : ℕ) (a : Answer A) {y : A} → unless t n a ≡ gives y → (t ≡ true) × (a ≡ gives y)
+held true n a e = (refl, e)
+held false n a e = let z : _≡_ {A = ℕ} 0 1 = cc in absurd (omega arith)
+
 -- what a test gave or else refused was given because the test holds
-pub given : {A : Type 0} (t : Bool) (x : A) (n : ℕ) {y : A} → pick t (gives x) (refuses n) ≡ gives y → (t ≡ true) × (x ≡ y)
-given true x n e = (refl, cc)
-given false x n e = let z : _≡_ {A = ℕ} 0 1 = cc in absurd (omega arith)
+pub given : {A : Type 0} (t : Bool) (x : A) (n : ℕ) {y : A} → unless t n (gives x) ≡ gives y → (t ≡ true) × (x ≡ y)
+given t x n e = let h = held t n (gives x) e in (h .0, cc)
+
+-- and was refused because it does not
+pub ungiven : {A : Type 0} (t : Bool) (x : A) (n : ℕ) {m : ℕ} → unless t n (gives x) ≡ refuses m → (t ≡ false) × (m ≡ n)
+ungiven true x n e = let z : _≡_ {A = ℕ} 0 1 = cc in absurd (omega arith)
+ungiven false x n e = (refl, cc)
 
 -- a function with a way back takes no two values to one
 pub injective : {A B : Type 0} (f : A → B) (back : B → A) → ((a : A) → back (f a) ≡ a) → {x y : A} → f x ≡ f y → x ≡ y

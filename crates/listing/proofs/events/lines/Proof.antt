@@ -2,8 +2,8 @@
 use Prim.Native.Nat.{_≤_, _-_}
 use borrow.Author.Needs.{needs}
 use Rattle.track.specs.List.{capacity}
-use Rattle.listing.proofs.lines.Statement.{statement}
-use Rattle.listing.proofs.lines.Tie as tie
+use Rattle.listing.proofs.events.lines.Statement.{statement}
+use Rattle.listing.proofs.events.lines.Tie as tie
 
 abbrev Inv-loop : tie.InvT-loop
 Inv-loop list count index₀ index = index ≤ capacity
