@@ -54,7 +54,8 @@ agrees block =
     && (eqb (totalOf block) (length block) && noGap (behindEntries (countOf block)) (entriesOf block) (length block))
 
 -- the ranges of a bank's tracks in its block. Document 02, Q-3: 25 where the count is above the most, wherever it can be read; 24 where the block is
--- shorter than the header and its entries; 26 any other disagreement
+-- shorter than the header and its entries; 26 any other disagreement. Of a block of under four bytes no count can be read: it is 24 by the second test,
+-- since the header alone has eight
 unfoldable pub readBank : ℕ → List ℕ → Answer (List Span)
 readBank most block =
     unless (ltb (length block) 4 || leb (countOf block) most) 25
