@@ -13,6 +13,7 @@ use Rattle.rows.specs.RowEvent.{calledRow}
 use Rattle.rows.specs.RowLists.{calledRows}
 use Rattle.same.specs.OfRows.{rowsAsked, listsAsked}
 use Rattle.rows.proofs.IdenticalLists.{rowsLeft-identical}
+use Rattle.rows.proofs.IdenticalRow.{rowTold-injective}
 use Rattle.event.proofs.IdenticalRunning.{step-identical}
 use Rattle.loader_track.proofs.Identical.{handed-identical}
 use Rattle.player.specs.Answers.{Beside}
@@ -124,6 +125,7 @@ banks =
 sheets : Sheets
 sheets =
     record {
+      read-row = λ κs a y z d e p q. joined (rowTold-injective (p .0 ∙ sym (q .0)), p .1 ∙ sym (q .1));
       read-rows = λ κs a y z d e p q. joined (rowsLeft-identical (p ∙ sym q));
     }
 

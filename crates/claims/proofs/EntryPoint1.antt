@@ -34,7 +34,8 @@ use Rattle.loader.specs.Entry.{fromBits, answered, leaves}
 use Rattle.loader.specs.Fields.{encodeFormat, timingGiven, ticksOf, timingRate, subframeOf}
 use Rattle.loader.specs.Smpte.{timeGiven, sixOf}
 use Rattle.event.specs.Lent.{readRunning}
-use Rattle.loader_track.specs.Events.{readAnswered, readRow, readUsed, readPadding}
+use Rattle.rows.specs.One.{readRow}
+use Rattle.loader_track.specs.Events.{readAnswered, readUsed, readPadding}
 use Rattle.loader_track.specs.Lists.{stopNumber, listGiven, sheetPut, readAnswer}
 use Rattle.player.specs.Sounding.{silence}
 use Rattle.player.specs.Entries.{tableIn, rowsAccepted}

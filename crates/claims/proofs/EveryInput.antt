@@ -123,6 +123,7 @@ rows =
       are-bytes = λ κs a. tt;
       event-of-row = λ κs a. tt;
       event-of-row-at = λ κs a. tt;
+      read-row = λ κs a. tt;
       read-rows = λ κs a. tt;
     }
 

@@ -25,6 +25,7 @@ use Rattle.write.specs.declared.answer.WroteEvent.{WroteEvent}
 use Rattle.write.specs.declared.answer.ListLength as measured
 use Rattle.write.specs.declared.answer.WroteList.{WroteList}
 use Rattle.rows.specs.declared.lists.ReadRows.{ReadRows}
+use Rattle.rows.specs.declared.one.ReadRow.{ReadRow}
 use Rattle.number.proofs.u28.read_u7 as read-u7
 use Rattle.number.proofs.u28.write_varlen as write-varlen
 use Rattle.number.proofs.payload.read_varlen_slice as read-varlen-slice
@@ -40,6 +41,7 @@ use Rattle.write.proofs.records.write_list as write-list
 use Rattle.write.proofs.row_lists.rows_length as rows-length
 use Rattle.write.proofs.row_lists.write_rows as write-rows
 use Rattle.rows.proofs.lists.read_rows as read-rows
+use Rattle.rows.proofs.one.read_row as read-row
 use Rattle.player.specs.Table.{Table}
 use Rattle.player.proofs.table.fresh as fresh
 use Rattle.player.proofs.table.counts as counts
@@ -131,6 +133,10 @@ module _ {ℓ} {X : Type ℓ} where
   -- `write_slice(bytes, slice, out, at)`, its answer, and what `out` holds at the end
   abbrev pub writeSliceCall : (List ℕ → Range → List ℕ → ℕ → WroteNumber → List ℕ → X) → Shows write-slice.Reads.Learnt X
   writeSliceCall show κs a r e = show (now (first a)) (second a) (now (third a)) (fourth a) r (now (third e))
+
+  -- `read_row(raw, at, running, rules, row)`, its answer, and what `row` holds at the end
+  abbrev pub readRowCall : (List ℕ → ℕ → Running → Rules → List ℕ → ReadRow → List ℕ → X) → Shows read-row.Reads.Learnt X
+  readRowCall show κs a r e = show (now (first a)) (second a) (third a) (fourth a) (now (fifth a)) r (now (fifth e))
 
   -- `read_rows(raw, at, running, rules, cells)`, its answer, and what `cells` holds at the end
   abbrev pub readRowsCall : (List ℕ → ℕ → Running → Rules → List ℕ → ReadRows → List ℕ → X) → Shows read-rows.Reads.Learnt X

@@ -6,7 +6,7 @@ use Rattle.player.proofs as player
 use Rattle.bank.proofs as bank
 use Rattle.rows.proofs as rows
 use Rattle.event.proofs as event
-use Rattle.claims.specs.Calls.{OneAnswer, OneOutcome, readRowsCall, _&_}
+use Rattle.claims.specs.Calls.{OneAnswer, OneOutcome, readRowCall, readRowsCall, _&_}
 use Rattle.claims.specs.EntryCalls.{numberReadEntry, numberWriteEntry, payloadReadEntry, payloadWriteEntry, formatReadEntry, formatEncodeEntry, timingReadEntry, timingEncodeEntry, fpsAsCodeEntry, fpsFromIntEntry, fpsAsF32Entry, smpteReadEntry, smpteEncodeEntry, smpteSecondF32Entry, smptePositionEntry, bendAsIntEntry, bendAsF32Entry, bendAsF64Entry, eventReadEntry, eventLengthEntry, eventWriteEntry, listReadEntry, listLengthEntry, listWriteEntry, eventSameEntry, listSameEntry, soundingAfterEntry, soundingCountsEntry, soundingSilenceEntry, bankReadEntry, bankTrackEntry, bankListEntry, bankWriteEntry}
 
 -- `loader`: numbers, payloads, and the rules of a call
@@ -114,8 +114,9 @@ pub record BankEntries : Type 0 where
   pub bank-write : OneOutcome bank.entries.«apk_bank_write».Reads.Learnt
       (bankWriteEntry (λ bytes ranges count out total r. r & out .after & total .after))
 
--- `rows`: a list read into rows of numbers
+-- `rows`: an event read into a row of numbers, and a list into rows
 pub record Sheets : Type 0 where
+  pub read-row : OneOutcome rows.one.«read_row».Reads.Learnt (readRowCall (λ raw at running rules row r end. r & end))
   pub read-rows : OneOutcome rows.lists.«read_rows».Reads.Learnt (readRowsCall (λ raw at running rules cells r end. r & end))
 
 -- `event`: one event read with the running status handed over

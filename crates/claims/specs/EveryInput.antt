@@ -121,13 +121,14 @@ pub record AnyTrack : Type 0 where
   pub cursor-next : Any track.cursor.Cursor.next.Reads.Asked
   pub recorded : Any track.record.recorded.Reads.Asked
 
--- `rows`: rows of cells, and lists read into them
+-- `rows`: rows of cells, and events and lists read into them
 pub record AnyRows : Type 0 where
   pub kind-row : Any rows.«kind_row».Reads.Asked
   pub event-row : Any rows.«event_row».Reads.Asked
   pub are-bytes : Any rows.back.«are_bytes».Reads.Asked
   pub event-of-row : Any rows.back.«row_event».Reads.Asked
   pub event-of-row-at : Any rows.back.«row_event_at».Reads.Asked
+  pub read-row : Any rows.one.«read_row».Reads.Asked
   pub read-rows : Any rows.lists.«read_rows».Reads.Asked
 
 -- `write`: events, rows and lists of both, measured and written

@@ -4,18 +4,12 @@ use Prim.Native.Nat.{ℕ}
 use Rattle.smf.specs.Answer.{Answer, Rules}
 use Rattle.smf.specs.Event.{ReadAt, readsAt, refusedAt, EventWritten, writeEvent}
 use Rattle.write.specs.Size.{Size, sizeEvent}
-use Rattle.rows.specs.Rows.{eventRow}
 use Rattle.rows.specs.RowEvent.{rowJudged}
 
 -- the answer: 0 where an event was read, else the refusal's number
 abbrev pub readAnswered : ReadAt → ℕ
 readAnswered (readsAt e) = 0
 readAnswered (refusedAt n used running padding) = n
-
--- the row at the end: the event's; after a refusal, what it held
-abbrev pub readRow : ReadAt → List ℕ → List ℕ
-readRow (readsAt e) held = eventRow (e .event)
-readRow (refusedAt n used running padding) held = held
 
 -- the bytes used, which after a refusal are none
 abbrev pub readUsed : ReadAt → ℕ

@@ -5,13 +5,13 @@ ghost use Rattle.smf.specs.Event.{eventAt};
 ghost use Rattle.event.specs.Lent.{readRunning};
 ghost use Rattle.write.specs.Size.{Size};
 ghost use Rattle.loader.specs.Entry.{fromBits, answered, leaves};
-ghost use Rattle.loader_track.specs.Events.{readAnswered, readRow, readUsed, readPadding, rowSize, rowWritten};
+ghost use Rattle.rows.specs.One.{readRow};
+ghost use Rattle.loader_track.specs.Events.{readAnswered, readUsed, readPadding, rowSize, rowWritten};
 use base::Running;
-use event::TrackEvent;
-use event::read::ReadEvent;
 use loader::rules;
 use rows::WIDTH;
-use rows::event_row;
+use rows::one::ReadRow;
+use rows::one::read_row;
 use write::answer::EventLength;
 use write::answer::WroteEvent;
 use write::one::row_length;
@@ -36,21 +36,18 @@ pub extern "C" fn apk_event_read(
     ensures after { λ r. ⌜ now (after .exit) ≡ readRunning (eventAt (fromBits bits) running (now (bytes .entry)) at) ⌝ }
     ensures padding { λ r. ⌜ now (padding .exit) ≡ readPadding (eventAt (fromBits bits) running (now (bytes .entry)) at) ⌝ }
 {
-    match TrackEvent::read(bytes, at, Running { status: running }, rules(bits)) {
-        ReadEvent::Refused(n) => {
+    match read_row(bytes, at, Running { status: running }, rules(bits), row) {
+        ReadRow::Refused(n) => {
             let refusal = n.refusal;
             *used = n.used;
             *after = n.running.status;
             *padding = n.padding;
             refusal.number()
         }
-        ReadEvent::Event(e) => {
-            let event = e.event;
-            let kind = event.kind;
-            *row = event_row(event.delta.0, kind);
-            *used = e.used;
-            *after = e.running.status;
-            *padding = e.padding;
+        ReadRow::Row(r) => {
+            *used = r.used;
+            *after = r.running.status;
+            *padding = r.padding;
             0
         }
     }

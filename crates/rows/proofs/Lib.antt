@@ -6,6 +6,7 @@ pub mod Identical
 pub mod RowCells
 pub mod CellsFit
 pub mod IdenticalLists
+pub mod IdenticalRow
 pub mod RowsKept
 pub mod Copying
 pub mod LaidRow

@@ -6,4 +6,5 @@ pub mod RowAnswer
 pub mod Sheet
 pub mod Read
 pub mod Short
+pub mod One
 pub mod Kept

@@ -1,4 +1,4 @@
--- Short events: channel messages with a delta of one byte, which the reader into rows takes at once. Nothing new is defined here: what is said is
+-- Short events: channel messages with a delta of one byte, which the readers into rows take at once. Nothing new is defined here: what is said is
 -- that the short way answers what `eventAt` of `smf` does.
 use mathlib.Core.Path.{_≡_}
 use mathlib.Core.List.{List}

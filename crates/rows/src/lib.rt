@@ -2,6 +2,7 @@
 // Rows are what the entries hand to C and take from it, and what sameness compares.
 pub mod back;
 pub mod lists;
+pub mod one;
 mod short;
 
 ghost use mathlib.Core.Path.{_≡_};
