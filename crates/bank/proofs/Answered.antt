@@ -19,8 +19,8 @@ use Rattle.bank.specs.declared.Verdict.TheVariants as verdict
 use Rattle.bank.specs.declared.read.ReadBank.{ReadBank}
 use Rattle.bank.specs.declared.read.BankTrack.{BankTrack}
 use Rattle.bank.specs.declared.read.BankTrack.TheVariants as track
-use Rattle.bank.proofs.OneForm.{read-few}
-use Rattle.bank.proofs.Tracks.{track-there, track-none, track-inside, listed-there, listed-refused}
+use Rattle.bank.proofs.OneForm.{read_few}
+use Rattle.bank.proofs.Tracks.{track_there, track_none, track_inside, listed-there, listed-refused}
 
 -- an element of the front, whatever stands for one past the end
 get_d_front : {A : Type 0} (front behind : List A) (i : ℕ) (d e : A) → i < length front → get_or (front ++ behind) i d ≡ get_or front i e
@@ -35,62 +35,62 @@ pub record Told (most : ℕ) (asked : Answer (List Span)) (r : ReadBank) : Type 
   pub held : bank_of r.bank ≡ held_tracks most tracks
 
 module _ (most : ℕ) (r : ReadBank) where
-  pub bank-refused : (asked : Answer (List Span)) → bank_read r ≡ bank_answer most asked → (n : Refusal) → r.verdict ≡ verdict.Refused n → asked ≡ refuses (number_of n)
+  pub bank_refused : (asked : Answer (List Span)) → bank_read r ≡ bank_answer most asked → (n : Refusal) → r.verdict ≡ verdict.Refused n → asked ≡ refuses (number_of n)
   unfolding bank_answer
-  bank-refused (gives tracks) e n v =
+  bank_refused (gives tracks) e n v =
       let said : refuses (number_of n) ≡ gives (tt {0}) = rw v at (ap (λ (b : BankAnswer). b.verdict) e) in
       let z : ◌≡◌ {A = ℕ} 0 1 = cc in
       absurd (omega arith)
-  bank-refused (refuses m) e n v =
+  bank_refused (refuses m) e n v =
       let said : ◌≡◌ {A = Answer (Unit {0})} (refuses (number_of n)) (refuses m) = rw v at (ap (λ (b : BankAnswer). b.verdict) e) in
       let same : number_of n ≡ m = cc in
       ap refuses (sym same)
 
-  pub bank-told : (asked : Answer (List Span)) → bank_read r ≡ bank_answer most asked → r.verdict ≡ verdict.Accepted → Told most asked r
+  pub bank_told : (asked : Answer (List Span)) → bank_read r ≡ bank_answer most asked → r.verdict ≡ verdict.Accepted → Told most asked r
   unfolding bank_answer
-  bank-told (gives tracks) e v = record { tracks = tracks; there = refl; held = ap (λ (b : BankAnswer). b.bank) e }
-  bank-told (refuses m) e v =
+  bank_told (gives tracks) e v = record { tracks = tracks; there = refl; held = ap (λ (b : BankAnswer). b.bank) e }
+  bank_told (refuses m) e v =
       let said : gives (tt {0}) ≡ refuses m = rw v at (ap (λ (b : BankAnswer). b.verdict) e) in
       let z : ◌≡◌ {A = ℕ} 0 1 = cc in
       absurd (omega arith)
 
 module _ {most : ℕ} {asked : Answer (List Span)} {r : ReadBank} (t : Told most asked r) where
-  pub told-count : r.bank.count ≡ length t.tracks
+  pub told_count : r.bank.count ≡ length t.tracks
   unfolding held_tracks
-  told-count = ap (λ (b : BankHeld). b.count) t.held
+  told_count = ap (λ (b : BankHeld). b.count) t.held
 
-  pub told-tracks : spans_of r.bank.tracks ≡ (held_tracks most t.tracks).tracks
-  told-tracks = ap (λ (b : BankHeld). b.tracks) t.held
+  pub told_tracks : spans_of r.bank.tracks ≡ (held_tracks most t.tracks).tracks
+  told_tracks = ap (λ (b : BankHeld). b.tracks) t.held
 
 -- the track of an index
 module _ (most : ℕ) (block : List ℕ) (index : ℕ) {r : ReadBank} (t : Told most (read_bank most block) r) where
-  pub told-few : r.bank.count ≤ most
-  told-few = omega (arith, told-count t, read-few most block t.there)
+  pub told_few : r.bank.count ≤ most
+  told_few = omega (arith, told_count t, read_few most block t.there)
 
   pub told_none : r.bank.count ≤ index → track_at most block index ≡ refuses 34
-  told_none h = track-none most block index t.tracks t.there (omega (arith, told-count t))
+  told_none h = track_none most block index t.tracks t.there (omega (arith, told_count t))
 
-  pub told-there : (past : Range) → index < r.bank.count → track_at most block index ≡ gives (span_of (get_or r.bank.tracks index past))
+  pub told_there : (past : Range) → index < r.bank.count → track_at most block index ≡ gives (span_of (get_or r.bank.tracks index past))
   unfolding held_tracks
-  told-there past h =
-      let inner : index < length t.tracks = omega (arith, told-count t) in
+  told_there past h =
+      let inner : index < length t.tracks = omega (arith, told_count t) in
       let own : span_of (get_or r.bank.tracks index past) ≡ get_or t.tracks index no_span =
       sym (get_or-map span_of r.bank.tracks index past)
-      ∙ ap (λ (l : List Span). get_or l index (span_of past)) (told-tracks t)
+      ∙ ap (λ (l : List Span). get_or l index (span_of past)) (told_tracks t)
       ∙ get_d_front t.tracks _ index (span_of past) no_span inner
       in
-      track-there most block index t.tracks t.there inner ∙ ap gives (sym own)
+      track_there most block index t.tracks t.there inner ∙ ap gives (sym own)
 
 -- what an answer for a track says
 module _ (most : ℕ) (block : List ℕ) (index : ℕ) (r : BankTrack) (says : bank_track r ≡ track_at most block index) where
   pub said_refused : (n : Refusal) → r ≡ track.Refused n → track_at most block index ≡ refuses (number_of n)
   said_refused n e = sym says ∙ ap bank_track e
 
-  pub said-there : (range : Range) → r ≡ track.Track range → track_at most block index ≡ gives (span_of range)
-  said-there range e = sym says ∙ ap bank_track e
+  pub said_there : (range : Range) → r ≡ track.Track range → track_at most block index ≡ gives (span_of range)
+  said_there range e = sym says ∙ ap bank_track e
 
-  pub said-within : (range : Range) → r ≡ track.Track range → range.start + range.length ≤ length block
-  said-within range e = inside_within block (span_of range) (track-inside most block index (said-there range e))
+  pub said_within : (range : Range) → r ≡ track.Track range → range.start + range.length ≤ length block
+  said_within range e = inside_within block (span_of range) (track_inside most block index (said_there range e))
 
   -- and of its listing
   module _ (rules : Rules) (events : ℕ) where
@@ -98,7 +98,7 @@ module _ (most : ℕ) (block : List ℕ) (index : ℕ) (r : BankTrack) (says : b
     said-unlisted n e = listed-refused most block index rules events (number_of n) (said_refused n e)
 
     pub said-listed : (range : Range) → r ≡ track.Track range → track_listed rules events most block index ≡ gives (list_at rules events 0 (bytes_of block (span_of range)) 0)
-    said-listed range e = listed-there most block index rules events (span_of range) (said-there range e)
+    said-listed range e = listed-there most block index rules events (span_of range) (said_there range e)
 
 -- the bytes of a range, from its start to its end
 pub range_bytes : (block : List ℕ) (range : Range) → take (range.start + range.length - range.start) (drop range.start block) ≡ bytes_of block (span_of range)

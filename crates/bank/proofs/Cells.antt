@@ -31,8 +31,8 @@ module _ (ranges : List Range) (before : List ℕ) (room : length before ≡ 2 *
     pub kept : length cells ≡ length before
     pub final : over (cells_of spans) before 0 ≡ over (cells_of (drop index spans)) cells (2 * index)
 
-  pub cells-first : CellsPut before 0
-  cells-first = record { within = omega arith; kept = refl; final = refl }
+  pub cells_first : CellsPut before 0
+  cells_first = record { within = omega arith; kept = refl; final = refl }
 
   module _ {cells : List ℕ} {index : ℕ} (p : CellsPut cells index) where
     pub cells-more : (past : Range) → index < length ranges

@@ -81,32 +81,32 @@ abbrev pub bank_spans : List (List ℕ) → List Span
 bank_spans tracks = spans_from (behind_entries (length tracks)) tracks
 
 module _ (tracks : List (List ℕ)) where
-  count-said : count_of (encode_bank tracks) ≡ length tracks
+  count_said : count_of (encode_bank tracks) ≡ length tracks
   unfolding encode_bank wide_from
-  count-said = wide_four (length tracks)
+  count_said = wide_four (length tracks)
 
-  total-said : total_of (encode_bank tracks) ≡ bank_length tracks
+  total_said : total_of (encode_bank tracks) ≡ bank_length tracks
   unfolding encode_bank wide_from
-  total-said = wide_four (bank_length tracks)
+  total_said = wide_four (bank_length tracks)
 
-  entries-said : ranges (entry_at (encode_bank tracks)) 0 (length tracks) ≡ bank_spans tracks
+  entries_said : ranges (entry_at (encode_bank tracks)) 0 (length tracks) ≡ bank_spans tracks
   unfolding encode_bank
-  entries-said =
+  entries_said =
       entries_say tracks (encode_bank tracks) (four_bytes (length tracks) ++ four_bytes (bank_length tracks)) (flatten tracks) (behind_entries (length tracks)) 0 refl refl
 
   -- its tracks, byte for byte
-  pub bank-holds : tracks_of (encode_bank tracks) (bank_spans tracks) ≡ tracks
+  pub bank_holds : tracks_of (encode_bank tracks) (bank_spans tracks) ≡ tracks
   unfolding encode_bank
-  bank-holds =
+  bank_holds =
       let front : List ℕ = four_bytes (length tracks) ++ (four_bytes (bank_length tracks) ++ entries (behind_entries (length tracks)) tracks) in
       spans_hold tracks (encode_bank tracks) front (behind_entries (length tracks)) (simp append_assoc) (omega (arith, entries_length (behind_entries (length tracks)) tracks))
 
   -- the bank of tracks is read as where they stand, wherever they are few and small enough
-  pub bank-reads : (most : ℕ) → length tracks ≤ most → bank_length tracks ≤ most_bytes → read_bank most (encode_bank tracks) ≡ gives (bank_spans tracks)
-  bank-reads most few small =
+  pub bank_reads : (most : ℕ) → length tracks ≤ most → bank_length tracks ≤ most_bytes → read_bank most (encode_bank tracks) ≡ gives (bank_spans tracks)
+  bank_reads most few small =
       let size = bank_length_lem tracks in
-      let said = entries-said in
-      let counted = count-said in
+      let said = entries_said in
+      let counted = count_said in
       let stand = spans_stand tracks (behind_entries (length tracks)) (length (encode_bank tracks)) (sym size) in
-      walked most (encode_bank tracks) (omega arith) (omega arith) (omega arith) (omega arith) (total-said ∙ sym size)
+      walked most (encode_bank tracks) (omega arith) (omega arith) (omega arith) (omega arith) (total_said ∙ sym size)
       ∙ rw (counted, said, stand)

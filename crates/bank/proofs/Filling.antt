@@ -16,18 +16,18 @@ use Rattle.bank.specs.Read.{ranges}
 use Rattle.bank.specs.Answers.{spans_of, held_tracks}
 
 module _ (range : ℕ → Span) where
-  pub ranges-length : (i n : ℕ) → length (ranges range i n) ≡ n
+  pub ranges_length : (i n : ℕ) → length (ranges range i n) ≡ n
   unfolding ranges
-  ranges-length i zero = refl
-  ranges-length i (suc n) = ap suc (ranges-length (i + 1) n)
+  ranges_length i zero = refl
+  ranges_length i (suc n) = ap suc (ranges_length (i + 1) n)
 
   -- the last of them
-  pub ranges-last : (i n : ℕ) → ranges range i (suc n) ≡ ranges range i n ++ (range (i + n) ∷ [])
+  pub ranges_last : (i n : ℕ) → ranges range i (suc n) ≡ ranges range i n ++ (range (i + n) ∷ [])
   unfolding ranges
-  ranges-last i zero = ap (λ (k : ℕ). range k ∷ []) (sym (add-zero i))
-  ranges-last i (suc n) =
+  ranges_last i zero = ap (λ (k : ℕ). range k ∷ []) (sym (add-zero i))
+  ranges_last i (suc n) =
       let same : i + 1 + n ≡ i + suc n = omega arith in
-      ap (λ (l : List Span). range i ∷ l) (ranges-last (i + 1) n ∙ ap (λ (k : ℕ). ranges range (i + 1) n ++ (range k ∷ [])) same)
+      ap (λ (l : List Span). range i ∷ l) (ranges_last (i + 1) n ∙ ap (λ (k : ℕ). ranges range (i + 1) n ++ (range k ∷ [])) same)
 
   module _ (most : ℕ) where
     -- i of as many ranges are filled in
@@ -40,7 +40,7 @@ module _ (range : ℕ → Span) where
 
     pub filled-length : (xs : List Range) (i : ℕ) → i ≤ most → Filled xs i → length xs ≡ most
     filled-length xs i few h =
-        sym (length-map xs span_of) ∙ ap length h ∙ length-append (ranges range 0 i) _ ∙ rw (ranges-length 0 i, length-replicate) (omega arith)
+        sym (length-map xs span_of) ∙ ap length h ∙ length-append (ranges range 0 i) _ ∙ rw (ranges_length 0 i, length-replicate) (omega arith)
 
     pub filled_more : (xs : List Range) (i : ℕ) (x : Range) → i < most → Filled xs i → span_of x ≡ range i → Filled (set xs i x) (i + 1)
     filled_more xs i x room h own =
@@ -48,11 +48,11 @@ module _ (range : ℕ → Span) where
         let left : most - i ≡ suc (most - (i + 1)) = omega arith in
         let there : spans_of xs ≡ ranges range 0 i ++ (no_span ∷ rest) = h ∙ ap (λ (k : ℕ). ranges range 0 i ++ replicate k no_span) left in
         let next : ranges range 0 (i + 1) ≡ ranges range 0 i ++ (range i ∷ []) =
-        ap (ranges range 0) (add-one i) ∙ ranges-last 0 i ∙ ap (λ (k : ℕ). ranges range 0 i ++ (range k ∷ [])) (zero-add i)
+        ap (ranges range 0) (add-one i) ∙ ranges_last 0 i ∙ ap (λ (k : ℕ). ranges range 0 i ++ (range k ∷ [])) (zero-add i)
         in
         map_set span_of xs i x
         ∙ ap (λ (l : List Span). set l i (span_of x)) there
-        ∙ set_at (ranges range 0 i) no_span rest (span_of x) i (ranges-length 0 i)
+        ∙ set_at (ranges range 0 i) no_span rest (span_of x) i (ranges_length 0 i)
         ∙ ap (λ (s : Span). ranges range 0 i ++ (s ∷ rest)) own
         ∙ sym (append_assoc (ranges range 0 i) (range i ∷ []) rest)
         ∙ ap (λ (l : List Span). l ++ rest) (sym next)
@@ -63,4 +63,4 @@ module _ (range : ℕ → Span) where
     -- as they are held
     pub filled-held : (xs : List Range) (i : ℕ) → Filled xs i → record { tracks = spans_of xs; count = i } ≡ held_tracks most (ranges range 0 i)
     unfolding held_tracks
-    filled-held xs i h = rw (h, ranges-length 0 i)
+    filled-held xs i h = rw (h, ranges_length 0 i)

@@ -31,8 +31,8 @@ module _ (most count : ℕ) (few : count ≤ most) (block : List ℕ) where
     pub filled : Filled (entry_at block) most tracks index
     pub rest : Whole ≡ no_gap place (ranges (entry_at block) index (count - index)) (length block)
 
-  pub walked-first : (tracks : List Range) → spans_of tracks ≡ replicate most no_span → Walked tracks (behind_entries count) 0
-  walked-first tracks h =
+  pub walked_first : (tracks : List Range) → spans_of tracks ≡ replicate most no_span → Walked tracks (behind_entries count) 0
+  walked_first tracks h =
       record {
         within = omega arith;
         small = omega arith;

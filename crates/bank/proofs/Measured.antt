@@ -11,11 +11,11 @@ module _ (size : ℕ) where
   abbrev Measured : Answer ℕ
   Measured = unless (leb size most_bytes) 20 (gives size)
 
-  pub measured-over : most_bytes < size → refuses 20 ≡ Measured
-  measured-over h = rw (lt-leb size most_bytes h)
+  pub measured_over : most_bytes < size → refuses 20 ≡ Measured
+  measured_over h = rw (lt-leb size most_bytes h)
 
-  pub measured-fits : (sum : ℕ) → sum ≡ size → sum ≤ most_bytes → gives sum ≡ Measured
-  measured-fits sum e h = rw (← e, le-leb sum most_bytes h)
+  pub measured_fits : (sum : ℕ) → sum ≡ size → sum ≤ most_bytes → gives sum ≡ Measured
+  measured_fits sum e h = rw (← e, le-leb sum most_bytes h)
 
   module _ {r : Answer ℕ} (measured : r ≡ Measured) where
     pub measured-large : {n : ℕ} → r ≡ refuses n → (n ≡ 20) × (most_bytes < size)

@@ -17,7 +17,7 @@ use Rattle.bank.specs.Bank.{most_bytes, four_bytes, behind_entries, entries, ban
 use Rattle.bank.specs.Read.{wide_from, count_of, total_of, entry_at, ranges, entries_of, no_gap, agrees, read_bank}
 use Rattle.bank.specs.Write.{all_inside, tracks_of}
 use Rattle.bank.proofs.FourBytes.{drop_four}
-use Rattle.bank.proofs.Filling.{ranges-length}
+use Rattle.bank.proofs.Filling.{ranges_length}
 
 -- what is known of a block that is read as a bank
 record Accepted (most : ℕ) (block : List ℕ) (spans : List Span) : Type 0 where
@@ -78,28 +78,28 @@ stand_inside block place (span ∷ spans) e =
 
 module _ (block : List ℕ) (bytes : (i : ℕ) → get_or block i 0 < 256) where
   -- an entry's bytes, from its own place on
-  entry-is : (i : ℕ) → behind_entries (i + 1) ≤ length block
+  entry_is : (i : ℕ) → behind_entries (i + 1) ≤ length block
       → drop (behind_entries i) block ≡ four_bytes (entry_at block i).start ++ (four_bytes (entry_at block i).length ++ drop (behind_entries (i + 1)) block)
   unfolding entry_at
-  entry-is i h =
+  entry_is i h =
       let next : behind_entries i + 4 + 4 ≡ behind_entries (i + 1) = omega arith in
       drop_four block bytes (behind_entries i) (omega arith)
       ∙ ap (λ (l : List ℕ). four_bytes (wide_from block (behind_entries i)) ++ l) (drop_four block bytes (behind_entries i + 4) (omega arith))
       ∙ rw next
 
   -- so many entries from an index on are those of the tracks that they say
-  entries-are : (n i place end : ℕ) → end ≡ behind_entries i + 8 * n → end ≤ length block → no_gap place (ranges (entry_at block) i n) (length block) ≡ true
+  entries_are : (n i place end : ℕ) → end ≡ behind_entries i + 8 * n → end ≤ length block → no_gap place (ranges (entry_at block) i n) (length block) ≡ true
       → drop (behind_entries i) block ≡ entries place (tracks_of block (ranges (entry_at block) i n)) ++ drop end block
   unfolding ranges no_gap entries
-  entries-are zero i place end h within e = let same : end ≡ behind_entries i = omega arith in rw same
-  entries-are (suc n) i place end h within e =
+  entries_are zero i place end h within e = let same : end ≡ behind_entries i = omega arith in rw same
+  entries_are (suc n) i place end h within e =
       let span : Span = entry_at block i in
       let t = both (eqb span.start place) (no_gap (place + span.length) (ranges (entry_at block) (i + 1) n) (length block)) e in
       let first = eqb-true span.start place t.0 in
       let inner = stand_within (place + span.length) (ranges (entry_at block) (i + 1) n) (length block) t.1 in
       let long : length (bytes_of block span) ≡ span.length = part_length block span (omega arith) in
-      let more = entries-are n (i + 1) (place + span.length) end (omega arith) within t.1 in
-      let entry = entry-is i (omega arith) in
+      let more = entries_are n (i + 1) (place + span.length) end (omega arith) within t.1 in
+      let entry = entry_is i (omega arith) in
       rw (long, entry, more, first)
 
   module _ (most : ℕ) {spans : List Span} (e : read_bank most block ≡ gives spans) where
@@ -110,9 +110,9 @@ module _ (block : List ℕ) (bytes : (i : ℕ) → get_or block i 0 < 256) where
         let long = a.long in
         let count : ℕ = count_of block in
         let tracks : List (List ℕ) = tracks_of block (entries_of block) in
-        let counted : length tracks ≡ count_of block = length-map (entries_of block) (bytes_of block) ∙ ranges-length (entry_at block) 0 count in
+        let counted : length tracks ≡ count_of block = length-map (entries_of block) (bytes_of block) ∙ ranges_length (entry_at block) 0 count in
         let behind = stand_bytes block (behind_entries count) (entries_of block) a.stand in
-        let middle = entries-are count 0 (behind_entries count) (behind_entries count) (omega arith) long a.stand in
+        let middle = entries_are count 0 (behind_entries count) (behind_entries count) (omega arith) long a.stand in
         let size : bank_length tracks ≡ total_of block = omega (arith, length-drop (behind_entries count) block, ap length behind, a.total) in
         let first = drop_four block bytes 0 (omega arith) in
         let second = drop_four block bytes 4 (omega arith) in
@@ -127,16 +127,16 @@ module _ (block : List ℕ) (bytes : (i : ℕ) → get_or block i 0 < 256) where
 
 -- whatever the elements are, what is read as a bank has no more tracks and bytes than the most, and each of its tracks is inside it
 module _ (most : ℕ) (block : List ℕ) {spans : List Span} (e : read_bank most block ≡ gives spans) where
-  pub read-few : length spans ≤ most
-  read-few =
+  pub read_few : length spans ≤ most
+  read_few =
       let a = accepted most block e in
-      rw (← a.same, ranges-length (entry_at block) 0 (count_of block)) a.few
+      rw (← a.same, ranges_length (entry_at block) 0 (count_of block)) a.few
 
   pub read_small : length block ≤ most_bytes
   read_small = (accepted most block e).small
 
-  pub read-inside : all_inside block spans ≡ true
-  read-inside =
+  pub read_inside : all_inside block spans ≡ true
+  read_inside =
       let a = accepted most block e in
       rw (← a.same) (stand_inside block (behind_entries (count_of block)) (entries_of block) a.stand)
 

@@ -12,7 +12,7 @@ use Rattle.base.specs.declared.Range.{Range}
 use Rattle.write.proofs.Storing.{over_none}
 use Rattle.bank.specs.Bank.{four_bytes, behind_entries, entries, bank_length}
 use Rattle.bank.specs.Write.{all_inside, tracks_of}
-use Rattle.bank.proofs.Rest.{Rest, counted, range, rest-first, rest-inside, rest-long, rest-next, rest_more, rest-bound, none}
+use Rattle.bank.proofs.Rest.{Rest, counted, range, rest_first, rest-inside, rest-long, rest-next, rest_more, rest-bound, none}
 use Rattle.bank.proofs.Rest as rest
 
 -- a range of the bytes that was put where it fits
@@ -25,18 +25,18 @@ module _ (bytes : List ℕ) (ranges : List Range) (count : ℕ) (long : count �
   tracks = tracks_of bytes (counted bytes ranges count)
 
   -- the tracks from an index on
-  abbrev pub tracksLeft : ℕ → List (List ℕ)
-  tracksLeft i = tracks_of bytes (rest.left bytes ranges count i)
+  abbrev pub tracks_left : ℕ → List (List ℕ)
+  tracks_left i = tracks_of bytes (rest.left bytes ranges count i)
 
   module _ (before : List ℕ) where
     -- entries
     pub record EntriesPut (out : List ℕ) (place index : ℕ) : Type 0 where
       pub rest : Rest bytes ranges count place index
       pub kept : length out ≡ length before
-      pub final : over (entries (behind_entries count) tracks) before 8 ≡ over (entries place (tracksLeft index)) out (behind_entries index)
+      pub final : over (entries (behind_entries count) tracks) before 8 ≡ over (entries place (tracks_left index)) out (behind_entries index)
 
     pub entries-first : all_inside bytes (counted bytes ranges count) ≡ true → EntriesPut before (behind_entries count) 0
-    entries-first all = record { rest = rest-first bytes ranges count long all; kept = refl; final = refl }
+    entries-first all = record { rest = rest_first bytes ranges count long all; kept = refl; final = refl }
 
     module _ (room : behind_entries count ≤ length before) {out : List ℕ} {place index : ℕ} (p : EntriesPut out place index) where
       pub entries-more : (past : Range) (out₁ out₂ : List ℕ) → (more : index < count)
@@ -46,13 +46,13 @@ module _ (bytes : List ℕ) (ranges : List Range) (count : ℕ) (long : count �
       unfolding entries
       entries-more past out₁ out₂ more one two =
           let len = (get_or ranges index past).length in
-          let behind = entries (place + len) (tracksLeft (index + 1)) in
+          let behind = entries (place + len) (tracks_left (index + 1)) in
           let at = behind_entries index in
           let kept₁ : length out₁ ≡ length out = ap length one ∙ length_over (four_bytes place) out at (omega (arith, p.kept)) in
           let kept₂ : length out₂ ≡ length out₁ = ap length two ∙ length_over (four_bytes len) out₁ (at + 4) (omega (arith, p.kept)) in
-          let own : entries place (tracksLeft index) ≡ four_bytes place ++ (four_bytes len ++ behind) =
+          let own : entries place (tracks_left index) ≡ four_bytes place ++ (four_bytes len ++ behind) =
           ap (entries place) (rest-next bytes ranges count long p.rest past more)
-          ∙ ap (λ (n : ℕ). four_bytes place ++ (four_bytes n ++ entries (place + n) (tracksLeft (index + 1)))) (rest-long bytes ranges count long p.rest past more)
+          ∙ ap (λ (n : ℕ). four_bytes place ++ (four_bytes n ++ entries (place + n) (tracks_left (index + 1)))) (rest-long bytes ranges count long p.rest past more)
           in
           let end : at + 4 + 4 ≡ behind_entries (index + 1) = omega arith in
           record {
@@ -77,10 +77,10 @@ module _ (bytes : List ℕ) (ranges : List Range) (count : ℕ) (long : count �
     pub record TracksPut (out : List ℕ) (place index : ℕ) : Type 0 where
       pub rest : Rest bytes ranges count place index
       pub kept : length out ≡ length before
-      pub final : over (flatten tracks) before (behind_entries count) ≡ over (flatten (tracksLeft index)) out place
+      pub final : over (flatten tracks) before (behind_entries count) ≡ over (flatten (tracks_left index)) out place
 
     pub tracks-first : all_inside bytes (counted bytes ranges count) ≡ true → TracksPut before (behind_entries count) 0
-    tracks-first all = record { rest = rest-first bytes ranges count long all; kept = refl; final = refl }
+    tracks-first all = record { rest = rest_first bytes ranges count long all; kept = refl; final = refl }
 
     module _ (room : bank_length tracks ≤ length before) {out : List ℕ} {place index : ℕ} (p : TracksPut out place index) where
       pub tracks-more : (past : Range) (w : Written) → (more : index < count) → w ≡ write (part bytes (range bytes ranges count long p.rest past more)) out place
@@ -91,7 +91,7 @@ module _ (bytes : List ℕ) (ranges : List Range) (count : ℕ) (long : count �
           let bound = rest-bound bytes ranges count long p.rest past more in
           let size = rest-long bytes ranges count long p.rest past more in
           let put = slice_put bytes span out place w (rest-inside bytes ranges count long p.rest past more) (omega (arith, p.kept)) e in
-          let behind = flatten (tracksLeft (index + 1)) in
+          let behind = flatten (tracks_left (index + 1)) in
           record {
             rest = rest_more bytes ranges count long p.rest past more;
             kept = ap length put ∙ length_over (bytes_of bytes span) out place (omega (arith, p.kept)) ∙ p.kept;

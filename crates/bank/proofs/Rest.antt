@@ -25,8 +25,8 @@ module _ (bytes : List ℕ) (ranges : List Range) (count : ℕ) where
   left i = drop i counted
 
   -- how long the tracks from an index on are
-  abbrev pub leftLength : ℕ → ℕ
-  leftLength i = length (flatten (tracks_of bytes (left i)))
+  abbrev pub left_length : ℕ → ℕ
+  left_length i = length (flatten (tracks_of bytes (left i)))
 
   module _ (long : count ≤ length ranges) where
     pub counted-length : length counted ≡ count
@@ -62,8 +62,8 @@ module _ (bytes : List ℕ) (ranges : List Range) (count : ℕ) where
       pub looked-out : inside bytes (span_of (get_or ranges index past)) ≡ false → false ≡ all_inside bytes counted
       looked-out out = sym (asked ∙ rw out)
 
-      pub looked-more : inside bytes (span_of (get_or ranges index past)) ≡ true → Looked (index + 1)
-      looked-more is = record { long = l.long; within = omega arith; same = asked ∙ rw is }
+      pub looked_more : inside bytes (span_of (get_or ranges index past)) ≡ true → Looked (index + 1)
+      looked_more is = record { long = l.long; within = omega arith; same = asked ∙ rw is }
 
     pub looked-all : count ≤ index → true ≡ all_inside bytes counted
     unfolding all_inside
@@ -75,10 +75,10 @@ module _ (bytes : List ℕ) (ranges : List Range) (count : ℕ) where
   pub record Rest (place index : ℕ) : Type 0 where
     pub within : index ≤ count
     pub safe : all_inside bytes (left index) ≡ true
-    pub sum : place + leftLength index ≡ bank_length (tracks_of bytes counted)
+    pub sum : place + left_length index ≡ bank_length (tracks_of bytes counted)
 
-  pub rest-first : count ≤ length ranges → all_inside bytes counted ≡ true → Rest (behind_entries count) 0
-  rest-first long all =
+  pub rest_first : count ≤ length ranges → all_inside bytes counted ≡ true → Rest (behind_entries count) 0
+  rest_first long all =
       record { within = omega arith; safe = all; sum = omega (arith, length-map counted (bytes_of bytes), counted-length long) }
 
   module _ (long : count ≤ length ranges) {place index : ℕ} (r : Rest place index) (past : Range) (more : index < count) where
@@ -98,12 +98,12 @@ module _ (bytes : List ℕ) (ranges : List Range) (count : ℕ) where
     pub rest-next : tracks_of bytes (left index) ≡ bytes_of bytes range ∷ tracks_of bytes (left (index + 1))
     rest-next = ap (tracks_of bytes) (next long index past more)
 
-    pub rest-split : leftLength index ≡ range.length + leftLength (index + 1)
+    pub rest-split : left_length index ≡ range.length + left_length (index + 1)
     unfolding flatten
     rest-split =
         ap (λ (ts : List (List ℕ)). length (flatten ts)) rest-next
         ∙ length-append (bytes_of bytes range) (flatten (tracks_of bytes (left (index + 1))))
-        ∙ ap (λ (n : ℕ). n + leftLength (index + 1)) rest-long
+        ∙ ap (λ (n : ℕ). n + left_length (index + 1)) rest-long
 
     pub rest_more : Rest (place + range.length) (index + 1)
     rest_more = record { within = omega arith; safe = heads.1; sum = omega (arith, r.sum, rest-split) }
@@ -112,12 +112,12 @@ module _ (bytes : List ℕ) (ranges : List Range) (count : ℕ) where
     pub rest-bound : place + range.length ≤ bank_length (tracks_of bytes counted)
     rest-bound = omega (arith, r.sum, rest-split)
 
-  pub rest-place : {place index : ℕ} → Rest place index → place ≤ bank_length (tracks_of bytes counted)
-  rest-place r = omega (arith, r.sum)
+  pub rest_place : {place index : ℕ} → Rest place index → place ≤ bank_length (tracks_of bytes counted)
+  rest_place r = omega (arith, r.sum)
 
   -- behind the last the place is the bank's length
   pub rest_end : count ≤ length ranges → {place index : ℕ} → Rest place index → count ≤ index → place ≡ bank_length (tracks_of bytes counted)
   unfolding flatten
   rest_end long {place} {index} r last =
-      let none_left : leftLength index ≡ 0 = ap (λ (l : List Span). length (flatten (tracks_of bytes l))) (none long index last) in
+      let none_left : left_length index ≡ 0 = ap (λ (l : List Span). length (flatten (tracks_of bytes l))) (none long index last) in
       omega (arith, r.sum)

@@ -10,9 +10,9 @@ use Rattle.bank.specs.Bank.{most_bytes, behind_entries}
 use Rattle.bank.specs.Read.{count_of, total_of, entries_of, no_gap, agrees, read_bank}
 
 module _ (most : ℕ) (block : List ℕ) where
-  pub no-count : length block < 4 → read_bank most block ≡ refuses 24
+  pub no_count : length block < 4 → read_bank most block ≡ refuses 24
   unfolding read_bank
-  no-count h = rw (lt-ltb (length block) 4 h, lt-leb (behind_entries (count_of block)) (length block) (omega arith))
+  no_count h = rw (lt-ltb (length block) 4 h, lt-leb (behind_entries (count_of block)) (length block) (omega arith))
 
   module _ (counted : 4 ≤ length block) where
     pub many : most < count_of block → read_bank most block ≡ refuses 25

@@ -13,32 +13,32 @@ use Rattle.smf.specs.Event.{no_span}
 use Rattle.smf.specs.Lists.{list_at}
 use Rattle.smf.proofs.Answer.{by_answer, given}
 use Rattle.bank.specs.Read.{read_bank, track_at, track_listed}
-use Rattle.bank.proofs.OneForm.{read-inside, inside_at}
+use Rattle.bank.proofs.OneForm.{read_inside, inside_at}
 
 module _ (most : ℕ) (block : List ℕ) (index : ℕ) where
   -- a block that is no bank has no track
-  pub track-refused : {n : ℕ} → read_bank most block ≡ refuses n → track_at most block index ≡ refuses n
+  pub track_refused : {n : ℕ} → read_bank most block ≡ refuses n → track_at most block index ≡ refuses n
   unfolding track_at
-  track-refused e = rw e
+  track_refused e = rw e
 
   -- the track of an index that there is
-  pub track-there : (tracks : List Span) → read_bank most block ≡ gives tracks → index < length tracks → track_at most block index ≡ gives (get_or tracks index no_span)
+  pub track_there : (tracks : List Span) → read_bank most block ≡ gives tracks → index < length tracks → track_at most block index ≡ gives (get_or tracks index no_span)
   unfolding track_at
-  track-there tracks e h = rw (e, lt-ltb index (length tracks) h)
+  track_there tracks e h = rw (e, lt-ltb index (length tracks) h)
 
   -- and of one that there is not
-  pub track-none : (tracks : List Span) → read_bank most block ≡ gives tracks → length tracks ≤ index → track_at most block index ≡ refuses 34
+  pub track_none : (tracks : List Span) → read_bank most block ≡ gives tracks → length tracks ≤ index → track_at most block index ≡ refuses 34
   unfolding track_at
-  track-none tracks e h = rw (e, le-ltb index (length tracks) h)
+  track_none tracks e h = rw (e, le-ltb index (length tracks) h)
 
   -- a track that is there is inside the block
-  pub track-inside : {track : Span} → track_at most block index ≡ gives track → inside block track ≡ true
+  pub track_inside : {track : Span} → track_at most block index ≡ gives track → inside block track ≡ true
   unfolding track_at
-  track-inside {track} e =
+  track_inside {track} e =
       by_answer (read_bank most block)
       (λ tracks there.
       let g = given (ltb index (length tracks)) (get_or tracks index no_span) 34 (rw there at e) in
-      rw (← g.1) (inside_at block tracks index (ltb-true index (length tracks) g.0) (read-inside most block there)))
+      rw (← g.1) (inside_at block tracks index (ltb-true index (length tracks) g.0) (read_inside most block there)))
       (λ n there. let none : refuses n ≡ gives track = rw there at e in let z : ◌≡◌ {A = ℕ} 0 1 = cc in absurd (omega arith))
 
   module _ (rules : Rules) (events : ℕ) where

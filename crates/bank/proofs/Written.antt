@@ -10,7 +10,7 @@ use lib.Seq.{length-take-le}
 use Rattle.smf.specs.Answer.{gives}
 use Rattle.smf.specs.Place.{Span, bytes_of}
 use Rattle.smf.specs.Write.{Written, over, left, put}
-use Rattle.smf.proofs.Write.{over_over, length_over, put-fits, put_full}
+use Rattle.smf.proofs.Write.{over_over, length_over, put_fits, put_full}
 use Rattle.bank.specs.Bank.{most_bytes, four_bytes, behind_entries, entries, bank_length, encode_bank}
 use Rattle.bank.specs.Write.{all_inside, tracks_of, bank_bytes, ranges_bank, write_bank}
 use Rattle.bank.proofs.Encoded.{entries_length, bank_length_lem}
@@ -22,9 +22,9 @@ module _ (most : ℕ) (bytes : List ℕ) (spans : List Span) (count : ℕ) (out 
   abbrev Asked : Written
   Asked = write_bank most bytes spans count out
 
-  pub write-many : most < count → left out 25 ≡ Asked
+  pub write_many : most < count → left out 25 ≡ Asked
   unfolding ranges_bank
-  write-many h = rw (lt-leb count most h)
+  write_many h = rw (lt-leb count most h)
 
   module _ (few : count ≤ most) where
     pub write-outside : all_inside bytes (take count spans) ≡ false → left out 19 ≡ Asked
@@ -41,22 +41,22 @@ module _ (most : ℕ) (bytes : List ℕ) (spans : List Span) (count : ℕ) (out 
         unfolding ranges_bank bank_bytes
         write-whole = rw (le-leb count most few, all, le-leb (bank_length tracks) most_bytes small)
 
-        pub write-full : length out < bank_length tracks → left out 20 ≡ Asked
-        write-full h = put_full (encode_bank tracks) out 0 (omega (arith, bank_length_lem tracks)) ∙ write-whole
+        pub write_full : length out < bank_length tracks → left out 20 ≡ Asked
+        write_full h = put_full (encode_bank tracks) out 0 (omega (arith, bank_length_lem tracks)) ∙ write-whole
 
         module _ (long : count ≤ length spans) (room : bank_length tracks ≤ length out) where
           many : length tracks ≡ count
           many = length-map (take count spans) (bytes_of bytes) ∙ length-take-le count spans long
 
           -- the count, the total, the entries and the tracks
-          pub write-put : (n : ℕ) → bank_length tracks ≡ n → (a b c d : List ℕ)
+          pub write_put : (n : ℕ) → bank_length tracks ≡ n → (a b c d : List ℕ)
               → a ≡ over (four_bytes count) out 0
               → b ≡ over (four_bytes n) a 4
               → c ≡ over (entries (behind_entries count) tracks) b 8
               → d ≡ over (flatten tracks) c (behind_entries count)
               → record { buffer = d; answer = gives n } ≡ Asked
           unfolding encode_bank
-          write-put n sized a b c d first second third fourth =
+          write_put n sized a b c d first second third fourth =
               let es = entries (behind_entries count) tracks in
               let ts = flatten tracks in
               let la : length a ≡ length out = ap length first ∙ length_over (four_bytes count) out 0 (omega (arith, many)) in
@@ -79,5 +79,5 @@ module _ (most : ℕ) (bytes : List ℕ) (spans : List Span) (count : ℕ) (out 
               let sum : n ≡ 0 + length (encode_bank tracks) = omega (arith, bank_length_lem tracks, sized) in
               ap (λ (l : List ℕ). record { buffer = l; answer = gives n }) (end ∙ ap (λ (l : List ℕ). over l out 0) bank)
               ∙ ap (λ (m : ℕ). record { buffer = over (encode_bank tracks) out 0; answer = gives m }) sum
-              ∙ put-fits (encode_bank tracks) out 0 (omega arith)
+              ∙ put_fits (encode_bank tracks) out 0 (omega arith)
               ∙ write-whole

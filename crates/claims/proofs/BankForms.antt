@@ -12,7 +12,7 @@ use Rattle.smf.proofs.Answer.{by_answer, by-lt, ungiven}
 use Rattle.bank.specs.Bank.{most_bytes, four_bytes, behind_entries, entries, bank_length, encode_bank, IsBank}
 use Rattle.bank.specs.Read.{wide_from, entry_at, ranges, entries_of, no_gap, agrees, read_bank, track_at}
 use Rattle.bank.specs.Write.{all_inside, tracks_of, bank_bytes, ranges_bank}
-use Rattle.bank.proofs.Encoded.{bank_length_lem, bank_spans, bank-holds, bank-reads}
+use Rattle.bank.proofs.Encoded.{bank_length_lem, bank_spans, bank_holds, bank_reads}
 use Rattle.bank.proofs.OneForm as laws
 use Rattle.bank.proofs.Tested as tested
 use Rattle.claims.specs.Point3.{Bytes}
@@ -33,13 +33,13 @@ module _ (most : ℕ) (block : List ℕ) where
   reads_back tracks is =
       let bytes = is.bytes in
       let small : bank_length tracks ≤ most_bytes = omega (arith, bank_length_lem tracks, ap length bytes, is.small) in
-      (bank_spans tracks, rw bytes (bank-reads tracks most is.few small), rw bytes (bank-holds tracks))
+      (bank_spans tracks, rw bytes (bank_reads tracks most is.few small), rw bytes (bank_holds tracks))
 
   pub one_form : (spans : List Span) → Bytes block → read_bank most block ≡ gives spans → IsBank most block (tracks_of block spans)
   one_form spans bytes e =
       record {
         bytes = laws.one_form block (bytes_at block bytes) most e;
-        few = rw (length-map spans (bytes_of block)) (laws.read-few most block e);
+        few = rw (length-map spans (bytes_of block)) (laws.read_few most block e);
         small = laws.read_small most block e;
       }
 
@@ -48,8 +48,8 @@ pub unread : (most : ℕ) (block : List ℕ) → Unread most block (λ n. read_b
 unread most block =
     record {
       many = tested.many most block;
-      short = ⊎_elim (tested.no-count most block)
-          (λ h. by-lt (length block) 4 (tested.no-count most block) (λ counted. tested.short most block counted h.0 h.1));
+      short = ⊎_elim (tested.no_count most block)
+          (λ h. by-lt (length block) 4 (tested.no_count most block) (λ counted. tested.short most block counted h.0 h.1));
       other = λ few long bytes none.
           by_answer (read_bank most block) (λ spans e. absurd (none (tracks_of block spans) (one_form most block spans bytes e)))
           (λ n e. e ∙ ap refuses (ungiven (agrees block) (entries_of block) 26 (sym (tested.there most block (omega arith) few long) ∙ e)).1);

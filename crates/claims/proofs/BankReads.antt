@@ -20,14 +20,14 @@ use Rattle.bank.specs.Entries.{cells_of, range_in, ranges_in}
 use Rattle.bank.specs.declared.Verdict.TheVariants as verdict
 use Rattle.bank.specs.declared.read.ReadBank.{ReadBank}
 use Rattle.bank.proofs.Identical.{verdict_of_injective}
-use Rattle.bank.proofs.Answered.{bank-told, told-count, told-tracks}
+use Rattle.bank.proofs.Answered.{bank_told, told_count, told_tracks}
 use Rattle.bank.proofs.Encoded.{bank_length_lem}
-use Rattle.bank.proofs.OneForm.{read-few, read-inside}
+use Rattle.bank.proofs.OneForm.{read_few, read_inside}
 use Rattle.claims.specs.Table.{of_bank}
 use Rattle.claims.proofs.Player.{never_nought}
 use Rattle.claims.specs.Point3.{Bytes}
 use Rattle.claims.proofs.BankRefusals.{bank_by}
-use Rattle.bank.proofs.Tracks.{track-there, track-none}
+use Rattle.bank.proofs.Tracks.{track_there, track_none}
 use Rattle.claims.proofs.BankForms.{one_form}
 use Rattle.claims.proofs.BankWrites.{accepts, leaves}
 
@@ -53,9 +53,9 @@ module _ (most : ℕ) (spans : List Span) where
   unfolding held_tracks
   held_first = take-append_seam spans (replicate (most - length spans) no_span)
 
-  pub held-length : length spans ≤ most → length (held_tracks most spans).tracks ≡ most
+  pub held_length : length spans ≤ most → length (held_tracks most spans).tracks ≡ most
   unfolding held_tracks
-  held-length few = rw (length-append, length-replicate) (omega arith)
+  held_length few = rw (length-append, length-replicate) (omega arith)
 
 -- a block was read as a bank: so many of these ranges are those of its tracks
 pub record Given (block : List ℕ) (held : List Span) (count : ℕ) : Type 0 where
@@ -76,23 +76,23 @@ given_tracks block held count g tracks spans e is = let same : take count held �
 -- of `read_bank`
 module _ (block : List ℕ) (r : ReadBank) (told : bank_read r ≡ bank_answer most_tracks (read_bank most_tracks block)) where
   -- where it is a bank
-  pub read-accepts : (spans : List Span) → read_bank most_tracks block ≡ gives spans → (r.verdict ≡ verdict.Accepted) × Given block (spans_of r.bank.tracks) r.bank.count
+  pub read_accepts : (spans : List Span) → read_bank most_tracks block ≡ gives spans → (r.verdict ≡ verdict.Accepted) × Given block (spans_of r.bank.tracks) r.bank.count
   unfolding bank_answer held_tracks
-  read-accepts spans e =
+  read_accepts spans e =
       let t = rw e at told in (
         verdict_of_injective (ap (λ (b : BankAnswer). b.verdict) t),
         held_given block spans _ _ e (ap (λ (b : BankAnswer). b.bank.tracks) t) (ap (λ (b : BankAnswer). b.bank.count) t),
       )
 
-  pub read-refuses : (n : ℕ) → read_bank most_tracks block ≡ refuses n → verdict_of r.verdict ≡ refuses n
+  pub read_refuses : (n : ℕ) → read_bank most_tracks block ≡ refuses n → verdict_of r.verdict ≡ refuses n
   unfolding bank_answer
-  read-refuses n e = let t = rw e at told in ap (λ (b : BankAnswer). b.verdict) t
+  read_refuses n e = let t = rw e at told in ap (λ (b : BankAnswer). b.verdict) t
 
   -- where it was accepted
-  pub read-given : r.verdict ≡ verdict.Accepted → Given block (spans_of r.bank.tracks) r.bank.count
-  read-given ok =
-      let t = bank-told most_tracks r (read_bank most_tracks block) told ok in
-      held_given block t.tracks _ _ t.there (told-tracks t) (told-count t)
+  pub read_given : r.verdict ≡ verdict.Accepted → Given block (spans_of r.bank.tracks) r.bank.count
+  read_given ok =
+      let t = bank_told most_tracks r (read_bank most_tracks block) told ok in
+      held_given block t.tracks _ _ t.there (told_tracks t) (told_count t)
 
 -- of `apk_bank_read`
 module _ (block cells : List ℕ) (count : ℕ) {r : ℕ} {cells' : List ℕ} {count' : ℕ}
@@ -101,46 +101,46 @@ module _ (block cells : List ℕ) (count : ℕ) {r : ℕ} {cells' : List ℕ} {c
   pub entry_accepts : (spans : List Span) → read_bank most_tracks block ≡ gives spans → (r ≡ 0) × Given block (ranges_in most_tracks cells') count'
   entry_accepts spans e =
       let t = rw e at told in
-      let held = held-length most_tracks spans (read-few most_tracks block e) in
+      let held = held_length most_tracks spans (read_few most_tracks block e) in
       (t.0, held_given block spans _ _ e (rw t.1.0 (cells_back most_tracks (held_tracks most_tracks spans).tracks held)) t.1.1)
 
-  pub entry-refuses : (n : ℕ) → read_bank most_tracks block ≡ refuses n → r ≡ n
-  entry-refuses n e = let t = rw e at told in t.0
+  pub entry_refuses : (n : ℕ) → read_bank most_tracks block ≡ refuses n → r ≡ n
+  entry_refuses n e = let t = rw e at told in t.0
 
-  pub entry-given : r ≡ 0 → Given block (ranges_in most_tracks cells') count'
-  entry-given z =
+  pub entry_given : r ≡ 0 → Given block (ranges_in most_tracks cells') count'
+  entry_given z =
       by_answer (read_bank most_tracks block) (λ spans e. (entry_accepts spans e).1)
-      (λ n e. absurd (never_nought of_bank (read_bank most_tracks block) n (bank_by most_tracks block) e (sym (entry-refuses n e) ∙ z)))
+      (λ n e. absurd (never_nought of_bank (read_bank most_tracks block) n (bank_by most_tracks block) e (sym (entry_refuses n e) ∙ z)))
 
-  pub entry-refused : (r ≡ 0 → ⊥) → read_bank most_tracks block ≡ refuses r
-  entry-refused never =
+  pub entry_refused : (r ≡ 0 → ⊥) → read_bank most_tracks block ≡ refuses r
+  entry_refused never =
       by_answer (read_bank most_tracks block) (λ spans e. absurd (never (entry_accepts spans e).0))
-      (λ n e. e ∙ ap refuses (sym (entry-refuses n e)))
+      (λ n e. e ∙ ap refuses (sym (entry_refuses n e)))
 
 -- a bank that was read: its form, its tracks by their index, and what is written of its ranges
 module _ (block : List ℕ) (held : List Span) (count : ℕ) (g : Given block held count) where
-  pub given-form : Bytes block → IsBank most_tracks block (tracks_of block (take count held))
-  given-form bytes = one_form most_tracks block (take count held) bytes g.read
+  pub given_form : Bytes block → IsBank most_tracks block (tracks_of block (take count held))
+  given_form bytes = one_form most_tracks block (take count held) bytes g.read
 
-  pub given-there : (index : ℕ) → index < count → track_at most_tracks block index ≡ gives (get_or held index no_span)
-  given-there index h =
-      track-there most_tracks block index (take count held) g.read (omega (arith, g.counted)) ∙ ap gives (get_or-take count held index no_span h)
+  pub given_there : (index : ℕ) → index < count → track_at most_tracks block index ≡ gives (get_or held index no_span)
+  given_there index h =
+      track_there most_tracks block index (take count held) g.read (omega (arith, g.counted)) ∙ ap gives (get_or-take count held index no_span h)
 
-  pub given-none : (index : ℕ) → count ≤ index → track_at most_tracks block index ≡ refuses 34
-  given-none index h = track-none most_tracks block index (take count held) g.read (omega (arith, g.counted))
+  pub given_none : (index : ℕ) → count ≤ index → track_at most_tracks block index ≡ refuses 34
+  given_none index h = track_none most_tracks block index (take count held) g.read (omega (arith, g.counted))
 
-  pub given-writes : Bytes block → (out : List ℕ) → length block ≤ length out
+  pub given_writes : Bytes block → (out : List ℕ) → length block ≤ length out
       → ((write_bank most_tracks block held count out).answer ≡ gives (length block))
       × (take (length block) (write_bank most_tracks block held count out).buffer ≡ block)
-  given-writes bytes out room =
-      let form = given-form bytes in
+  given_writes bytes out room =
+      let form = given_form bytes in
       let is = form.bytes in
       let tracks : List (List ℕ) = tracks_of block (take count held) in
       let size : bank_length (tracks_of block (take count held)) ≡ length block = sym (bank_length_lem tracks) ∙ ap length (sym is) in
       let small = form.small in
       let w = accepts most_tracks block held count out (record {
-        few = omega (arith, g.counted, read-few most_tracks block g.read);
-        inner = read-inside most_tracks block g.read;
+        few = omega (arith, g.counted, read_few most_tracks block g.read);
+        inner = read_inside most_tracks block g.read;
         small = omega arith;
         fits = omega arith;
       }) in

@@ -11,11 +11,11 @@ use Rattle.smf.specs.Answer.{gives, refuses}
 use Rattle.smf.specs.Place.{Span, bytes_of}
 use Rattle.smf.specs.Write.{Written, over}
 use Rattle.smf.proofs.Answer.{by-test, by-lt}
-use Rattle.smf.proofs.Write.{put-fits, length_over}
+use Rattle.smf.proofs.Write.{put_fits, length_over}
 use Rattle.bank.specs.Bank.{most_bytes, bank_length, encode_bank}
 use Rattle.bank.specs.Write.{all_inside, tracks_of, write_bank}
 use Rattle.bank.proofs.Encoded.{bank_length_lem}
-use Rattle.bank.proofs.Written.{write-many, write-outside, write-above, write-whole, write-full}
+use Rattle.bank.proofs.Written.{write_many, write-outside, write-above, write-whole, write_full}
 use Rattle.claims.specs.Bank.{Allowed, Leaves}
 use Rattle.claims.proofs.BankForms.{is_bank}
 
@@ -34,11 +34,11 @@ module _ (most : ℕ) (bytes : List ℕ) (ranges : List Span) (count : ℕ) (out
   accepts a =
       let fits = a.fits in
       let long = bank_length_lem asked in
-      sym (write-whole most bytes ranges count out a.few a.inner a.small) ∙ sym (put-fits (encode_bank asked) out 0 (omega arith))
+      sym (write-whole most bytes ranges count out a.few a.inner a.small) ∙ sym (put_fits (encode_bank asked) out 0 (omega arith))
       ∙ ap (λ (n : ℕ). record { buffer = over (encode_bank asked) out 0; answer = gives n }) (omega arith)
 
   pub many : most < count → wrote.answer ≡ refuses 25
-  many h = said (write-many most bytes ranges count out h)
+  many h = said (write_many most bytes ranges count out h)
 
   pub outside : count ≤ most → all_inside bytes (take count ranges) ≡ false → wrote.answer ≡ refuses 19
   outside few h = said (write-outside most bytes ranges count out few h)
@@ -48,7 +48,7 @@ module _ (most : ℕ) (bytes : List ℕ) (ranges : List Span) (count : ℕ) (out
     above h = said (write-above most bytes ranges count out few inner h)
 
     full : bank_length asked ≤ most_bytes → length out < bank_length asked → wrote.answer ≡ refuses 20
-    full small h = said (write-full most bytes ranges count out few inner small h)
+    full small h = said (write_full most bytes ranges count out few inner small h)
 
     pub large : (most_bytes < bank_length asked) ⊎ (length out < bank_length asked) → wrote.answer ≡ refuses 20
     large (inl h) = above h
@@ -59,8 +59,8 @@ module _ (most : ℕ) (bytes : List ℕ) (ranges : List Span) (count : ℕ) (out
     never : (n : ℕ) → wrote.answer ≡ refuses n → ⊥
     never n refused = let z : ◌≡◌ {A = ℕ} 0 1 = cc in omega arith
 
-    pub accepts-only : Allowed most bytes ranges count (length out)
-    accepts-only =
+    pub accepts_only : Allowed most bytes ranges count (length out)
+    accepts_only =
         by-lt most count (λ h. absurd (never 25 (many h)))
         (λ few. by-test (all_inside bytes (take count ranges))
         (λ inner. by-lt most_bytes (bank_length asked) (λ h. absurd (never 20 (above few inner h)))
@@ -71,7 +71,7 @@ module _ (most : ℕ) (bytes : List ℕ) (ranges : List Span) (count : ℕ) (out
     -- what it leaves then
     pub leaves : Leaves most asked out total wrote.buffer
     leaves =
-        let a = accepts-only in
+        let a = accepts_only in
         let few = a.few in
         let fits = a.fits in
         let w = accepts a in
@@ -90,4 +90,4 @@ module _ (most : ℕ) (bytes : List ℕ) (ranges : List Span) (count : ℕ) (out
         }
 
   pub exactly : ((total : ℕ) × (wrote.answer ≡ gives total)) ↔ Allowed most bytes ranges count (length out)
-  exactly = ((λ is. accepts-only is.0 is.1), (λ allowed. (bank_length asked, ap (λ (w : Written). w.answer) (accepts allowed))))
+  exactly = ((λ is. accepts_only is.0 is.1), (λ allowed. (bank_length asked, ap (λ (w : Written). w.answer) (accepts allowed))))

@@ -30,7 +30,7 @@ use Rattle.bank.specs.declared.read.BankTrack.TheVariants as track
 use Rattle.bank.specs.declared.list.ListedTrack.{ListedTrack}
 use Rattle.bank.specs.declared.writing.WroteBank.{WroteBank}
 use Rattle.bank.specs.declared.writing.WroteBank.TheVariants as wrote
-use Rattle.bank.proofs.Answered.{bank-refused}
+use Rattle.bank.proofs.Answered.{bank_refused}
 use Rattle.bank.proofs.Encoded.{bank_length_lem}
 use Rattle.bank.proofs.OneForm.{one_alone}
 use Rattle.bank.proofs.Tested as tested
@@ -40,50 +40,50 @@ use Rattle.claims.specs.Point3.{Bytes}
 use Rattle.claims.specs.Bank.{tracks_in, Allowed, Leaves, Forms, Calls}
 use Rattle.claims.proofs.Owned.{full_ranges}
 use Rattle.claims.proofs.BankForms.{bytes_at, is_bank, reads_back, one_form, unread, unread_as, bank_bytes_lem}
-use Rattle.bank.proofs.Tracks.{track-refused, listed-there, listed-refused}
-use Rattle.claims.proofs.BankWrites.{accepts, accepts-only, many, outside, large, leaves, exactly}
-use Rattle.claims.proofs.BankReads.{Given, given_tracks, read-accepts, read-refuses, read-given, given-form, given-there, given-none, given-writes}
+use Rattle.bank.proofs.Tracks.{track_refused, listed-there, listed-refused}
+use Rattle.claims.proofs.BankWrites.{accepts, accepts_only, many, outside, large, leaves, exactly}
+use Rattle.claims.proofs.BankReads.{Given, given_tracks, read_accepts, read_refuses, read_given, given_form, given_there, given_none, given_writes}
 
 -- a write: what it answers, and what it leaves
 module _ (bytes : List ℕ) (ranges : List Range) (count : ℕ) (out : List ℕ) (r : WroteBank) (end : List ℕ) (told : bank_left r end ≡ write_bank most_tracks bytes (spans_of ranges) count out) where
-  write-answer : bank_wrote r ≡ (write_bank most_tracks bytes (spans_of ranges) count out).answer
-  write-answer = ap (λ (w : Written). w.answer) told
+  write_answer : bank_wrote r ≡ (write_bank most_tracks bytes (spans_of ranges) count out).answer
+  write_answer = ap (λ (w : Written). w.answer) told
 
-  write-exactly : ((total : ℕ) × (r ≡ wrote.Total total)) ↔ Allowed most_tracks bytes (spans_of ranges) count (length out)
-  write-exactly = (
-    (λ is. accepts-only most_tracks bytes (spans_of ranges) count out is.0 (sym write-answer ∙ ap bank_wrote is.1)),
+  write_exactly : ((total : ℕ) × (r ≡ wrote.Total total)) ↔ Allowed most_tracks bytes (spans_of ranges) count (length out)
+  write_exactly = (
+    (λ is. accepts_only most_tracks bytes (spans_of ranges) count out is.0 (sym write_answer ∙ ap bank_wrote is.1)),
     (λ allowed. (
       bank_length (tracks_of bytes (take count (spans_of ranges))),
-      bank_wrote_injective (write-answer ∙ ap (λ (w : Written). w.answer) (accepts most_tracks bytes (spans_of ranges) count out allowed)),
+      bank_wrote_injective (write_answer ∙ ap (λ (w : Written). w.answer) (accepts most_tracks bytes (spans_of ranges) count out allowed)),
     )),
   )
 
-  write-leaves : (total : ℕ) → r ≡ wrote.Total total → Leaves most_tracks (tracks_of bytes (take count (spans_of ranges))) out total end
-  write-leaves total is =
-      rw (ap (λ (w : Written). w.buffer) told) (leaves most_tracks bytes (spans_of ranges) count out total (sym write-answer ∙ ap bank_wrote is))
+  write_leaves : (total : ℕ) → r ≡ wrote.Total total → Leaves most_tracks (tracks_of bytes (take count (spans_of ranges))) out total end
+  write_leaves total is =
+      rw (ap (λ (w : Written). w.buffer) told) (leaves most_tracks bytes (spans_of ranges) count out total (sym write_answer ∙ ap bank_wrote is))
 
   -- what was written, read
-  write-reads : (total : ℕ) → r ≡ wrote.Total total → (block : List ℕ) (r' : ReadBank) → bank_read r' ≡ bank_answer most_tracks (read_bank most_tracks block) → block ≡ take total end
+  write_reads : (total : ℕ) → r ≡ wrote.Total total → (block : List ℕ) (r' : ReadBank) → bank_read r' ≡ bank_answer most_tracks (read_bank most_tracks block) → block ≡ take total end
       → (r'.verdict ≡ verdict.Accepted) × (tracks_in block r'.bank ≡ tracks_of bytes (take count (spans_of ranges)))
       × (length ranges ≡ most_tracks → r'.bank.count ≡ count)
-  write-reads total is block r' told' same =
+  write_reads total is block r' told' same =
       let tracks : List (List ℕ) = tracks_of bytes (take count (spans_of ranges)) in
-      let form : IsBank most_tracks block (tracks_of bytes (take count (spans_of ranges))) = rw same (write-leaves total is).written in
+      let form : IsBank most_tracks block (tracks_of bytes (take count (spans_of ranges))) = rw same (write_leaves total is).written in
       let back = reads_back most_tracks block tracks form in
-      let read = read-accepts block r' told' back.0 back.1 in
+      let read = read_accepts block r' told' back.0 back.1 in
       let given = read.1 in
       let held : tracks_in block r'.bank ≡ tracks_of bytes (take count (spans_of ranges)) = given_tracks block _ _ given tracks back.0 back.1 back.2 in
       let counted : r'.bank.count ≡ length (take count (spans_of ranges)) =
       given.counted ∙ sym (length-map (take r'.bank.count (spans_of r'.bank.tracks)) (bytes_of block)) ∙ ap length held
       ∙ length-map (take count (spans_of ranges)) (bytes_of bytes) in
-      let few = (accepts-only most_tracks bytes (spans_of ranges) count out total (sym write-answer ∙ ap bank_wrote is)).few in
+      let few = (accepts_only most_tracks bytes (spans_of ranges) count out total (sym write_answer ∙ ap bank_wrote is)).few in
       (read.0, held, λ full. counted ∙ length-take-le count (spans_of ranges) (rw (length-map ranges span_of, full) few))
 
 -- what was read, written again
 again : (block : List ℕ) (held : List Span) (count : ℕ) → Given block held count → Bytes block → (out : List ℕ) → length block ≤ length out
     → (r : WroteBank) (end : List ℕ) → bank_left r end ≡ write_bank most_tracks block held count out → (r ≡ wrote.Total (length block)) × (take (length block) end ≡ block)
 again block held count given bytes out room r end told =
-    let w = given-writes block held count given bytes out room in
+    let w = given_writes block held count given bytes out room in
     (bank_wrote_injective (ap (λ (w : Written). w.answer) told ∙ w.0), ap (λ (w : Written). take (length block) w.buffer) told ∙ w.1)
 
 -- a track that is there, listed
@@ -96,9 +96,9 @@ module _ (block : List ℕ) (index : ℕ) (rules : Rules) (r : ListedTrack)
       let t = rw (listed-there most_tracks block index (rules_of rules) capacity span is) at told in
       (verdict_of_injective (ap (λ (a : ListAnswer). a.verdict) t), list_read_injective (ap (λ (a : ListAnswer). a.list) t ∙ sym told'))
 
-  list-refused : (n : Refusal) → track_at most_tracks block index ≡ refuses (number_of n) → r.verdict ≡ verdict.Refused n
+  list_refused : (n : Refusal) → track_at most_tracks block index ≡ refuses (number_of n) → r.verdict ≡ verdict.Refused n
   unfolding list_answer
-  list-refused n is =
+  list_refused n is =
       let t = rw (listed-refused most_tracks block index (rules_of rules) capacity (number_of n) is) at told in
       verdict_of_injective (ap (λ (a : ListAnswer). a.verdict) t)
 
@@ -119,41 +119,41 @@ of_definitions =
 pub of_functions : Calls
 of_functions =
     record {
-      accepts = λ κs a r e told. write-exactly (first a).now (second a) (third a) (fourth a).now r (fourth e).now told;
+      accepts = λ κs a r e told. write_exactly (first a).now (second a) (third a) (fourth a).now r (fourth e).now told;
       many = λ κs a r e told h.
-          write-answer (first a).now (second a) (third a) (fourth a).now r (fourth e).now told
+          write_answer (first a).now (second a) (third a) (fourth a).now r (fourth e).now told
           ∙ many most_tracks (first a).now (spans_of (second a)) (third a) (fourth a).now h;
       outside = λ κs a r e told few not.
-          write-answer (first a).now (second a) (third a) (fourth a).now r (fourth e).now told
+          write_answer (first a).now (second a) (third a) (fourth a).now r (fourth e).now told
           ∙ outside most_tracks (first a).now (spans_of (second a)) (third a) (fourth a).now few not;
       large = λ κs a r e told few inner more.
-          write-answer (first a).now (second a) (third a) (fourth a).now r (fourth e).now told
+          write_answer (first a).now (second a) (third a) (fourth a).now r (fourth e).now told
           ∙ large most_tracks (first a).now (spans_of (second a)) (third a) (fourth a).now few inner more;
-      leaves = λ κs a r e told. write-leaves (first a).now (second a) (third a) (fourth a).now r (fourth e).now told;
+      leaves = λ κs a r e told. write_leaves (first a).now (second a) (third a) (fourth a).now r (fourth e).now told;
       reads_back = λ κs a r e told total is κs' a' r' e' told' same.
-          let back = write-reads (first a).now (second a) (third a) (fourth a).now r (fourth e).now told total is (first a').now r' told' same in
+          let back = write_reads (first a).now (second a) (third a) (fourth a).now r (fourth e).now told total is (first a').now r' told' same in
           (back.0, back.1);
       counts_back = λ κs a r e told good total is κs' a' r' e' told' same.
-          (write-reads (first a).now (second a) (third a) (fourth a).now r (fourth e).now told total is (first a').now r' told' same).2 (full_ranges κs a good);
+          (write_reads (first a).now (second a) (third a) (fourth a).now r (fourth e).now told total is (first a').now r' told' same).2 (full_ranges κs a good);
       reads = λ κs a r e told tracks is.
           let back = reads_back most_tracks (first a).now tracks is in
-          let read = read-accepts (first a).now r told back.0 back.1 in
+          let read = read_accepts (first a).now r told back.0 back.1 in
           (read.0, given_tracks (first a).now _ _ read.1 tracks back.0 back.1 back.2);
       unread = λ κs a r e told.
           unread_as most_tracks (first a).now (λ n. read_bank most_tracks (first a).now ≡ refuses n) (λ n. verdict_of r.verdict ≡ refuses n)
-          (read-refuses (first a).now r told) (unread most_tracks (first a).now);
-      one_form = λ κs a r e told bytes ok. given-form (first a).now _ _ (read-given (first a).now r told ok) bytes;
+          (read_refuses (first a).now r told) (unread most_tracks (first a).now);
+      one_form = λ κs a r e told bytes ok. given_form (first a).now _ _ (read_given (first a).now r told ok) bytes;
       alone = λ κs a r e told κs' a' r' e' told' bytes bytes' ok ok' same.
-          (given-form (first a).now _ _ (read-given (first a).now r told ok) bytes).bytes ∙ ap encode_bank same
-          ∙ sym (given-form (first a').now _ _ (read-given (first a').now r' told' ok') bytes').bytes;
+          (given_form (first a).now _ _ (read_given (first a).now r told ok) bytes).bytes ∙ ap encode_bank same
+          ∙ sym (given_form (first a').now _ _ (read_given (first a').now r' told' ok') bytes').bytes;
       writes_back = λ κs a r e told bytes ok κs' a' r' e' told' b g c room.
-          again (first a).now _ _ (read-given (first a).now r told ok) bytes (fourth a').now room r' (fourth e').now (rw (b, g, c) at told');
-      there = λ κs a r e told ok κs' a' r' e' told' b h. (rw b at told') ∙ given-there (first a).now _ _ (read-given (first a).now r told ok) (second a') h;
-      none = λ κs a r e told ok κs' a' r' e' told' b h. (rw b at told') ∙ given-none (first a).now _ _ (read-given (first a).now r told ok) (second a') h;
+          again (first a).now _ _ (read_given (first a).now r told ok) bytes (fourth a').now room r' (fourth e').now (rw (b, g, c) at told');
+      there = λ κs a r e told ok κs' a' r' e' told' b h. (rw b at told') ∙ given_there (first a).now _ _ (read_given (first a).now r told ok) (second a') h;
+      none = λ κs a r e told ok κs' a' r' e' told' b h. (rw b at told') ∙ given_none (first a).now _ _ (read_given (first a).now r told ok) (second a') h;
       no_bank = λ κs a r e told n not κs' a' r' e' told' b.
-          bank_track_injective ((rw b at told') ∙ track-refused most_tracks (first a).now (second a') (bank-refused most_tracks r (read_bank most_tracks (first a).now) told n not));
+          bank_track_injective ((rw b at told') ∙ track_refused most_tracks (first a).now (second a') (bank_refused most_tracks r (read_bank most_tracks (first a).now) told n not));
       lists = λ κs a r e told range is κs' a' r' e' told' b i κs'' a'' r'' e'' told'' same start status ruled.
           list_same (first a).now (second a) (third a') r' (rw (b, i) at told') _ (sym told ∙ ap bank_track is) r'' (rw (same, start, status, ruled) at told'');
       no_track = λ κs a r e told n is κs' a' r' e' told' b i.
-          list-refused (first a).now (second a) (third a') r' (rw (b, i) at told') n (sym told ∙ ap bank_track is);
+          list_refused (first a).now (second a) (third a') r' (rw (b, i) at told') n (sym told ∙ ap bank_track is);
     }

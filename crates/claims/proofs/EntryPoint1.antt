@@ -20,7 +20,7 @@ use Rattle.smf.specs.Bend.{ask_bend, ask_float}
 use Rattle.smf.specs.Event.{ReadAt, reads_at, refused_at, event_at}
 use Rattle.smf.specs.Lists.{Stop, ended, full, stopped, ListAt, list_at}
 use Rattle.smf.proofs.Answer.{pick_both, by-lt, by_answer, said_refused}
-use Rattle.smf.proofs.Write.{put-fits, put_full}
+use Rattle.smf.proofs.Write.{put_fits, put_full}
 use Rattle.track.specs.List.{capacity}
 use Rattle.rows.specs.RowEvent.{is_row}
 use Rattle.rows.specs.RowLists.{are_rows}
@@ -48,13 +48,13 @@ use Rattle.claims.specs.Table.{among, OneOf, By, of_number, of_payload, of_event
 use Rattle.claims.specs.Stands.{status_left, EventOrLeft, Why, ListStands}
 use Rattle.claims.specs.EntrySays.{Unchanged, Outcome, AnswersBy}
 use Rattle.claims.specs.EntryPoint1.{NumberRefusals, FieldRefusals, TimeRefusals, BendRefusals, TrackRefusals, SameRefusals, HandedOut, ListTold, SoundingRefusals, BankRefusals, EntryPoint1}
-use Rattle.claims.proofs.Refusals.{all_among, then_by, by_more, one_of_more, number-at-by, payload-at-by, format_by, rate_by, timing_by, timing_bytes_by, time_by, time_of_by, time_bytes_by, seconds_by, position_by, bend_by, bend_float_by, number_bytes_by, payload_bytes_by, write_keeps, row_by, event_length_by}
+use Rattle.claims.proofs.Refusals.{all_among, then_by, by_more, one_of_more, number_at_by, payload_at_by, format_by, rate_by, timing_by, timing_bytes_by, time_by, time_of_by, time_bytes_by, seconds_by, position_by, bend_by, bend_float_by, number_bytes_by, payload_bytes_by, write_keeps, row_by, event_length_by}
 use Rattle.claims.proofs.ReadLeaves.{event_or_left}
 use Rattle.claims.proofs.Stands.{list-stands}
 use Rattle.claims.proofs.EntrySays.{answers, keeps₁, keeps₂, keeps₃, writes}
 use Rattle.claims.proofs.Player.{rows_accepted_by, silence_by, answers-beside, rows_answers}
 use Rattle.claims.proofs.BankRefusals.{bank_by, track_by, ranges_bank_by}
-use Rattle.bank.proofs.Tracks.{track-inside, listed-there, listed-refused}
+use Rattle.bank.proofs.Tracks.{track_inside, listed-there, listed-refused}
 use Rattle.claims.proofs.EntryWrites.{event_write, list_length, list_write}
 
 numbers : NumberRefusals
@@ -63,7 +63,7 @@ numbers =
       number_read = λ κs a r e told.
           let rules = from_bits (third a) in
           keeps₃ (of_number rules.strict) (number_at rules (first a).now (second a)) (λ (n : NumberAt). n.value) (λ (n : NumberAt). n.next) (λ (n : NumberAt). n.padding) _ _ _
-          (number-at-by rules (first a).now (second a)) told;
+          (number_at_by rules (first a).now (second a)) told;
       number_write = λ κs a r e told.
           let own = number_bytes (first a) in
           writes (18 ∷ 20 ∷ []) _ _ (write own (second a).now (third a))
@@ -71,7 +71,7 @@ numbers =
       payload_read = λ κs a r e told.
           let rules = from_bits (third a) in
           keeps₃ (of_payload rules.strict) (payload_at rules (first a).now (second a)) (λ (p : PayloadAt). p.span.start) (λ (p : PayloadAt). p.span.length) (λ (p : PayloadAt). p.padding) _ _ _
-          (payload-at-by rules (first a).now (second a)) told;
+          (payload_at_by rules (first a).now (second a)) told;
       payload_write = λ κs a r e told.
           let own = payload_bytes (first a).now (second a) (third a) in
           writes (19 ∷ 20 ∷ 22 ∷ []) _ _ (write own (fourth a).now (fifth a))
@@ -84,14 +84,14 @@ unfolding to_format
 to_format_by n = pick_both (By (15 ∷ [])) (is_format n) tt refl
 
 module _ (ticks rate subframe : ℕ) where
-  timing-given-by : By (16 ∷ 18 ∷ []) (timing_given ticks rate subframe)
-  timing-given-by =
+  timing_given_by : By (16 ∷ 18 ∷ []) (timing_given ticks rate subframe)
+  timing_given_by =
       pick_both (By (16 ∷ 18 ∷ [])) (eqb rate 0) tt
       (then_by (16 ∷ 18 ∷ []) (to_rate rate) _ (by_more (16 ∷ 18 ∷ []) (16 ∷ []) (to_rate rate) refl (rate_by rate)) (λ _. tt))
 
-  timing-encoded-by : By (16 ∷ 18 ∷ []) (and_then (timing_given ticks rate subframe) encode_timing)
-  timing-encoded-by =
-      then_by (16 ∷ 18 ∷ []) (timing_given ticks rate subframe) encode_timing timing-given-by
+  timing_encoded_by : By (16 ∷ 18 ∷ []) (and_then (timing_given ticks rate subframe) encode_timing)
+  timing_encoded_by =
+      then_by (16 ∷ 18 ∷ []) (timing_given ticks rate subframe) encode_timing timing_given_by
       (λ t. by_more (16 ∷ 18 ∷ []) (18 ∷ []) (encode_timing t) refl (timing_bytes_by t))
 
 fields : FieldRefusals
@@ -104,7 +104,7 @@ fields =
           keeps₃ (16 ∷ 17 ∷ []) (read_timing (first a).now) ticks_of timing_rate subframe_of _ _ _ (timing_by (first a).now) told;
       timing_encode = λ κs a r e told.
           keeps₁ (16 ∷ 18 ∷ []) (and_then (timing_given (first a) (second a) (third a)) encode_timing) (λ (b : List ℕ). b) _
-          (timing-encoded-by (first a) (second a) (third a)) told;
+          (timing_encoded_by (first a) (second a) (third a)) told;
     }
 
 -- what is asked of a time of six numbers: 16, and the numbers of what is asked
@@ -117,11 +117,11 @@ module _ {A : Type 0} (ns : List ℕ) (more : all_among ns (16 ∷ []) ≡ true)
       then_by ns (time_given hour minute second frame subframe rate) ask
       (then_by ns (to_rate rate) _ (by_more ns (16 ∷ []) (to_rate rate) more (rate_by rate)) (λ _. tt)) k
 
-  pub asked-keeps : {r : ℕ} (part : A → A) (u : A) {u' : A} → (r ≡ answered asked) × (u' ≡ leaves part asked u) → AnswersBy ns r (u' ≡ u)
-  asked-keeps part u told = keeps₁ ns asked part u asked_by told
+  pub asked_keeps : {r : ℕ} (part : A → A) (u : A) {u' : A} → (r ≡ answered asked) × (u' ≡ leaves part asked u) → AnswersBy ns r (u' ≡ u)
+  asked_keeps part u told = keeps₁ ns asked part u asked_by told
 
-  pub asked-answers : {r : ℕ} → r ≡ answered asked → AnswersBy ns r (Unit {0})
-  asked-answers told = rw told (answers ns asked (λ _. Unit {0}) asked_by (λ _. tt))
+  pub asked_answers : {r : ℕ} → r ≡ answered asked → AnswersBy ns r (Unit {0})
+  asked_answers told = rw told (answers ns asked (λ _. Unit {0}) asked_by (λ _. tt))
 
 times : TimeRefusals
 times =
@@ -131,7 +131,7 @@ times =
       fps_as_f32 = λ κs a r e told. keeps₁ (16 ∷ []) (to_rate (first a)) rate_float _ (rate_by (first a)) told;
       smpte_new = λ κs a r e told.
           let rules = from_bits (seventh a) in
-          asked-answers (13 ∷ 16 ∷ []) refl (to_time rules) (λ t. by_more (13 ∷ 16 ∷ []) (13 ∷ []) (to_time rules t) refl (time_by rules t))
+          asked_answers (13 ∷ 16 ∷ []) refl (to_time rules) (λ t. by_more (13 ∷ 16 ∷ []) (13 ∷ []) (to_time rules t) refl (time_by rules t))
           (first a) (second a) (third a) (fourth a) (fifth a) (sixth a) told;
       smpte_read = λ κs a r e told.
           let rules = from_bits (sixth a) in
@@ -139,15 +139,15 @@ times =
           (time_of_by rules (first a) (second a) (third a) (fourth a) (fifth a)) told;
       smpte_encode = λ κs a r e told.
           let rules = from_bits (seventh a) in
-          asked-keeps (16 ∷ 18 ∷ []) refl (encode_time rules) (λ t. by_more (16 ∷ 18 ∷ []) (18 ∷ []) (encode_time rules t) refl (time_bytes_by rules t))
+          asked_keeps (16 ∷ 18 ∷ []) refl (encode_time rules) (λ t. by_more (16 ∷ 18 ∷ []) (18 ∷ []) (encode_time rules t) refl (time_bytes_by rules t))
           (first a) (second a) (third a) (fourth a) (fifth a) (sixth a) (λ (b : List ℕ). b) _ told;
       smpte_second_f32 = λ κs a r e told.
           let rules = from_bits (seventh a) in
-          asked-keeps (13 ∷ 16 ∷ []) refl (seconds_of rules) (λ t. by_more (13 ∷ 16 ∷ []) (13 ∷ []) (seconds_of rules t) refl (seconds_by rules t))
+          asked_keeps (13 ∷ 16 ∷ []) refl (seconds_of rules) (λ t. by_more (13 ∷ 16 ∷ []) (13 ∷ []) (seconds_of rules t) refl (seconds_by rules t))
           (first a) (second a) (third a) (fourth a) (fifth a) (sixth a) (λ (x : Float). x) _ told;
       smpte_position = λ κs a r e told.
           let rules = from_bits (seventh a) in
-          asked-keeps (13 ∷ 16 ∷ []) refl (position rules) (λ t. by_more (13 ∷ 16 ∷ []) (13 ∷ []) (position rules t) refl (position_by rules t))
+          asked_keeps (13 ∷ 16 ∷ []) refl (position rules) (λ t. by_more (13 ∷ 16 ∷ []) (13 ∷ []) (position rules t) refl (position_by rules t))
           (first a) (second a) (third a) (fourth a) (fifth a) (sixth a) (λ (n : ℕ). n) _ told;
     }
 
@@ -161,47 +161,47 @@ bends =
 
 -- one event, read
 module _ (rules : Rules) (bytes : List ℕ) (running at : ℕ) (row : List ℕ) where
-  event-outcome : (x : ReadAt) → EventOrLeft rules bytes running at x
+  event_outcome : (x : ReadAt) → EventOrLeft rules bytes running at x
       → Outcome (of_event rules.strict) (read_answered x) ((0 < read_used x) × (at + read_used x ≤ length bytes))
       ((read_row x row ≡ row) × (read_used x ≡ 0) × (read_running x ≡ status_left running (read_number rules (drop at bytes)) (read_answered x)) × (read_padding x ≡ 0))
-  event-outcome (reads_at a) l = l
-  event-outcome (refused_at zero used after padding) l = absurd (true≢false (sym l.0))
-  event-outcome (refused_at (suc n) used after padding) l = (l.0, (refl, l.1, l.2, l.3))
+  event_outcome (reads_at a) l = l
+  event_outcome (refused_at zero used after padding) l = absurd (true≢false (sym l.0))
+  event_outcome (refused_at (suc n) used after padding) l = (l.0, (refl, l.1, l.2, l.3))
 
 -- a list, read
 module _ (l : ListAt) (cells : List ℕ) where
-  why-answers : (rules : Rules) (bytes : List ℕ) (most : ℕ) (stop : Stop) → Why rules bytes most l stop
+  why_answers : (rules : Rules) (bytes : List ℕ) (most : ℕ) (stop : Stop) → Why rules bytes most l stop
       → (among (0 ∷ 255 ∷ []) (stop_number stop) ≡ true) ⊎ OneOf (20 ∷ of_event rules.strict) (stop_number stop)
-  why-answers rules bytes most ended w = inl refl
-  why-answers rules bytes most full w = inl refl
-  why-answers rules bytes most (stopped n) w = inr (one_of_more (20 ∷ of_event rules.strict) (of_event rules.strict) n (more rules.strict) w.0) where
+  why_answers rules bytes most ended w = inl refl
+  why_answers rules bytes most full w = inl refl
+  why_answers rules bytes most (stopped n) w = inr (one_of_more (20 ∷ of_event rules.strict) (of_event rules.strict) n (more rules.strict) w.0) where
     more : (b : Bool) → all_among (20 ∷ of_event b) (of_event b) ≡ true
     more true = refl
     more false = refl
 
-  list-answers : (rules : Rules) (bytes : List ℕ) (most : ℕ) → Why rules bytes most l l.stop
+  list_answers : (rules : Rules) (bytes : List ℕ) (most : ℕ) → Why rules bytes most l l.stop
       → (among (0 ∷ 255 ∷ []) (read_answer l cells) ≡ true) ⊎ OneOf (20 ∷ of_event rules.strict) (read_answer l cells)
-  list-answers rules bytes most w =
+  list_answers rules bytes most w =
       by-lt (length cells) (length (sheet_of l.events))
       (λ h. rw (← put_full (sheet_of l.events) cells 0 (omega (arith, h))) (inr (twenty rules.strict)))
-      (λ h. rw (← put-fits (sheet_of l.events) cells 0 (omega (arith, h))) (why-answers rules bytes most l.stop w)) where
+      (λ h. rw (← put_fits (sheet_of l.events) cells 0 (omega (arith, h))) (why_answers rules bytes most l.stop w)) where
         twenty : (b : Bool) → OneOf (20 ∷ of_event b) 20
         twenty true = refl
         twenty false = refl
 
 -- what is told of a list that is handed out
 module _ (l : ListAt) (rows : Lent (List ℕ)) (count place after padding : Lent ℕ) (r : ℕ) where
-  list-told : (r ≡ read_answer l rows.before) × ((rows.after ≡ (sheet_put l rows.before).buffer)
+  list_told : (r ≡ read_answer l rows.before) × ((rows.after ≡ (sheet_put l rows.before).buffer)
       × ((count.after ≡ leaves (λ (n : ℕ). length l.events) (sheet_put l rows.before).answer count.before)
       × ((place.after ≡ leaves (λ (n : ℕ). l.place) (sheet_put l rows.before).answer place.before)
       × ((after.after ≡ leaves (λ (n : ℕ). l.running) (sheet_put l rows.before).answer after.before)
       × (padding.after ≡ leaves (λ (n : ℕ). l.padding) (sheet_put l rows.before).answer padding.before)))))
       → ListTold l rows count place after padding r
-  list-told told =
+  list_told told =
       let put = sheet_of l.events in
       record {
         fits = λ h.
-            let t = rw (← put-fits put rows.before 0 (omega (arith, h))) at told in
+            let t = rw (← put_fits put rows.before 0 (omega (arith, h))) at told in
             record { answer = t.0; cells = t.1.0; many = t.1.1.0; reached = t.1.1.1.0; status = t.1.1.1.1.0; padded = t.1.1.1.1.1 };
         short = λ h.
             let t = rw (← put_full put rows.before 0 (omega (arith, h))) at told in
@@ -214,7 +214,7 @@ tracks =
       event_read = λ κs a r e told.
           let rules = from_bits (fourth a) in
           rw (told.0, told.1.0, told.1.1.0, told.1.1.1.0, told.1.1.1.1)
-          (event-outcome rules (first a).now (third a) (second a) (fifth a).now (event_at rules (third a) (first a).now (second a))
+          (event_outcome rules (first a).now (third a) (second a) (fifth a).now (event_at rules (third a) (first a).now (second a))
           (event_or_left rules (first a).now (third a) (second a)));
       event_length = λ κs a r e told.
           let judged = row_judged (from_bits (fourth a)) (second a).now (first a).now in
@@ -229,12 +229,12 @@ tracks =
       list_read_answers = λ κs a r e told.
           let rules = from_bits (fourth a) in
           rw told.0
-          (list-answers (list_given (fourth a) (third a) (first a).now (second a)) (fifth a).now rules (first a).now capacity
+          (list_answers (list_given (fourth a) (third a) (first a).now (second a)) (fifth a).now rules (first a).now capacity
           (list-stands rules (first a).now (second a) capacity (third a)).why);
       list_read = λ κs a r e told.
           let rules = from_bits (fourth a) in
           let l = list_given (fourth a) (third a) (first a).now (second a) in
-          (l, list-stands rules (first a).now (second a) capacity (third a), list-told l _ _ _ _ _ r told);
+          (l, list-stands rules (first a).now (second a) capacity (third a), list_told l _ _ _ _ _ r told);
     }
 
 -- what was asked of two rows, or of two sets of rows
@@ -277,7 +277,7 @@ module _ (block : List ℕ) (index bits : ℕ) (rows : Lent (List ℕ)) (count p
   abbrev listing : Answer ListAt
   listing = track_listed (from_bits bits) capacity most_tracks block index
 
-  bank-listed : (r ≡ stop_answered listing rows.before) × ((rows.after ≡ list_cells listing rows.before)
+  bank_listed : (r ≡ stop_answered listing rows.before) × ((rows.after ≡ list_cells listing rows.before)
       × ((count.after ≡ list_leaves (λ (l : ListAt). length l.events) listing rows.before count.before)
       × ((place.after ≡ list_leaves (λ (l : ListAt). l.place) listing rows.before place.before)
       × ((after.after ≡ list_leaves (λ (l : ListAt). l.running) listing rows.before after.before)
@@ -285,13 +285,13 @@ module _ (block : List ℕ) (index bits : ℕ) (rows : Lent (List ℕ)) (count p
       → (OneOf of_bank_track r × Unchanged rows × Unchanged count × Unchanged place × Unchanged after × Unchanged padding)
       ⊎ ((track : Span) × (track_at most_tracks block index ≡ gives track) × (inside block track ≡ true)
       × ((l : ListAt) × ListStands (from_bits bits) (bytes_of block track) capacity 0 0 l × ListTold l rows count place after padding r))
-  bank-listed told =
+  bank_listed told =
       by_answer (track_at most_tracks block index)
       (λ track is.
       let rules = from_bits bits in
       let l = list_at rules capacity 0 (bytes_of block track) 0 in
       let t = rw (listed-there most_tracks block index rules capacity track is) at told in
-      inr (track, is, track-inside most_tracks block index is, (l, list-stands rules (bytes_of block track) 0 capacity 0, list-told l rows count place after padding r t)))
+      inr (track, is, track_inside most_tracks block index is, (l, list-stands rules (bytes_of block track) 0 capacity 0, list_told l rows count place after padding r t)))
       (λ n is.
       let t = rw (listed-refused most_tracks block index (from_bits bits) capacity n is) at told in
       inl (rw t.0 (said_refused (By of_bank_track) (track_by most_tracks block index) is), t.1.0, t.1.1.0, t.1.1.1.0, t.1.1.1.1.0, t.1.1.1.1.1))
@@ -305,7 +305,7 @@ banks =
       bank_track_lem = λ κs a r e told.
           keeps₂ of_bank_track (track_at most_tracks (first a).now (second a)) (λ (track : Span). track.start) (λ (track : Span). track.length) _ _
           (track_by most_tracks (first a).now (second a)) told;
-      bank_list = λ κs a r e told. bank-listed (first a).now (second a) (third a) _ _ _ _ _ r told;
+      bank_list = λ κs a r e told. bank_listed (first a).now (second a) (third a) _ _ _ _ _ r told;
       bank_write = λ κs a r e told.
           let ranges = ranges_in most_tracks (second a).now in
           let own = ranges_bank most_tracks (first a).now ranges (third a) in

@@ -14,9 +14,9 @@ use Rattle.claims.specs.Table.{By, of_writing, of_list_length, of_list_writing}
 use Rattle.claims.specs.Leaves.{EventLeaves, SizeLeaves, ListLeaves}
 use Rattle.claims.specs.EntrySays.{Outcome, AnswersBy, said, said_list}
 use Rattle.claims.proofs.Refusals.{row_by}
-use Rattle.claims.proofs.EventWrites.{event-leaves}
+use Rattle.claims.proofs.EventWrites.{event_leaves}
 use Rattle.claims.proofs.ListLeaves.{rows_by, size-leaves, list-leaves}
-use Rattle.claims.proofs.EntrySays.{answers, ListBy, list-kept, event_itself, size_itself, list_left_itself}
+use Rattle.claims.proofs.EntrySays.{answers, ListBy, list_kept, event_itself, size_itself, list_left_itself}
 
 module _ (rules : Rules) (running : ℕ) (payload : List ℕ) where
   module _ (row out : List ℕ) (at next : ℕ) where
@@ -27,7 +27,7 @@ module _ (rules : Rules) (running : ℕ) (payload : List ℕ) where
     written = write_event running judged out at
 
     says : EventLeaves running at out written written.written.answer
-    says = event-leaves running judged (row_by rules payload row) out at
+    says = event_leaves running judged (row_by rules payload row) out at
 
     by : By of_writing written.written.answer
     by = of written.written.answer says where
@@ -70,7 +70,7 @@ module _ (rules : Rules) (running : ℕ) (payload : List ℕ) where
         → (r ≡ number_answered size.answer) × ((long' ≡ length_left size.answer long) × ((after' ≡ size.running) × (index' ≡ index_left size.answer index)))
         → Outcome of_list_length r (index' ≡ index) (long' ≡ long) × SizeLeaves all count running (record { answer = said_list r long' index'; running = after' }) (said_list r long' index')
     list_length told = (
-      rw (told.0, told.1.0, told.1.1.1) (list-kept of_list_length size.answer long index size-by),
+      rw (told.0, told.1.0, told.1.1.1) (list_kept of_list_length size.answer long index size-by),
       subst (λ (x : ListSize). SizeLeaves all count running x x.answer) (size_itself of_list_length size long index size-by told) size-says,
     )
 
@@ -98,6 +98,6 @@ module _ (rules : Rules) (running : ℕ) (payload : List ℕ) where
       pub list_write : {r long' after' index' : ℕ} {out' : List ℕ} → ListPut r out' long' after' index'
           → Outcome of_list_writing r (index' ≡ index) (long' ≡ long) × ListLeaves all count running out (record { buffer = out'; answer = said_list r long' index'; running = after' }) (said_list r long' index')
       list_write told = (
-        rw (told.0, told.1.1.0, told.1.1.1.1) (list-kept of_list_writing put.answer long index list-by),
+        rw (told.0, told.1.1.0, told.1.1.1.1) (list_kept of_list_writing put.answer long index list-by),
         subst (λ (x : ListWritten). ListLeaves all count running out x x.answer) (list_put told) list-says,
       )

@@ -29,11 +29,11 @@ event_some running e = omega (arith, length-append (encode_number e.delta) (enco
 
 -- bytes over a part of a buffer: those before and those beyond stay
 module _ (bs s : List ℕ) (at : ℕ) (h : at + length bs ≤ length s) where
-  over-before : take at (over bs s at) ≡ take at s
-  over-before = take_at (take at s) _ at (length-take-le at s (omega arith))
+  over_before : take at (over bs s at) ≡ take at s
+  over_before = take_at (take at s) _ at (length-take-le at s (omega arith))
 
-  over-beyond : drop (at + length bs) (over bs s at) ≡ drop (at + length bs) s
-  over-beyond =
+  over_beyond : drop (at + length bs) (over bs s at) ≡ drop (at + length bs) s
+  over_beyond =
       let l : length (take at s ++ bs) ≡ at + length bs = rw (length-append, length-take-le at s (omega arith)) in
       ap (drop (at + length bs)) (sym (append_assoc (take at s) bs _)) ∙ drop_at (take at s ++ bs) _ _ l
 
@@ -57,11 +57,11 @@ module _ (running : ℕ) (j : Answer (Event (List ℕ))) (numbered : By of_legal
   abbrev Put : Event (List ℕ) → Written → Type 0
   Put e w = Good (event_written running (event_after e) w)
 
-  judged-says : is_running running ≡ true → (a : Answer (Event (List ℕ))) → j ≡ a → Good (write_judged running a buffer at)
+  judged_says : is_running running ≡ true → (a : Answer (Event (List ℕ))) → j ≡ a → Good (write_judged running a buffer at)
   unfolding write_judged put
-  judged-says is (refuses n) h =
+  judged_says is (refuses n) h =
       record { number = one_of_more of_writing of_legality n refl (said_refused (By of_legality) numbered h); buffer = refl; status = refl }
-  judged-says is (gives e) h =
+  judged_says is (gives e) h =
       pick_test (Put e) (leb (at + length (encode_event running e)) (length buffer))
       (λ t. record { valid = is; event = e; legal = h; size = refl; room = leb-true _ _ t; own = refl })
       (λ t. record { number = refl; buffer = refl; status = refl })
@@ -72,13 +72,13 @@ module _ (running : ℕ) (j : Answer (Event (List ℕ))) (numbered : By of_legal
   says : Says written written.written.answer
   unfolding write_event
   says =
-      pick_test Good (is_running running) (λ is. judged-says is j refl) (λ _. record { number = refl; buffer = refl; status = refl })
+      pick_test Good (is_running running) (λ is. judged_says is j refl) (λ _. record { number = refl; buffer = refl; status = refl })
 
-  pub event-wrote : (next : ℕ) → written.written.answer ≡ gives next → Wrote written next
-  event-wrote next h = subst (Says written) h says
+  pub event_wrote : (next : ℕ) → written.written.answer ≡ gives next → Wrote written next
+  event_wrote next h = subst (Says written) h says
 
-  pub event-leaves : EventLeaves running at buffer written written.written.answer
-  event-leaves = by written.written.answer says where
+  pub event_leaves : EventLeaves running at buffer written written.written.answer
+  event_leaves = by written.written.answer says where
     by : (a : Answer ℕ) → Says written a → EventLeaves running at buffer written a
     by (refuses n) s = s
     by (gives next) s =
@@ -87,6 +87,6 @@ module _ (running : ℕ) (j : Answer (Event (List ℕ))) (numbered : By of_legal
           some = omega (arith, s.size, event_some running s.event);
           within = omega (arith, s.size, s.room);
           long = rw s.own (length_over own buffer at s.room);
-          before = rw s.own (over-before own buffer at s.room);
-          beyond = rw (s.size, s.own) (over-beyond own buffer at s.room);
+          before = rw s.own (over_before own buffer at s.room);
+          beyond = rw (s.size, s.own) (over_beyond own buffer at s.room);
         }

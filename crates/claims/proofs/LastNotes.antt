@@ -18,32 +18,32 @@ use Rattle.claims.specs.Sounding.{NoNote, LeavesLast}
 
 module _ (c k : ℕ) where
   -- no note message for them changes their entry
-  message-stays : (delta channel : ℕ) (m : Message) → NoNote c k (event delta (midi channel m) ∷ []) → change_by c k (message_note channel m) ≡ stays
+  message_stays : (delta channel : ℕ) (m : Message) → NoNote c k (event delta (midi channel m) ∷ []) → change_by c k (message_note channel m) ≡ stays
   unfolding change_by message_note
-  message-stays delta channel (note_off key vel) h =
+  message_stays delta channel (note_off key vel) h =
       by-test (eqb channel c && eqb key k)
       (λ t.
       let b = both (eqb channel c) (eqb key k) t in
       absurd ((h delta vel).1 (Memᴰ.head (rw (eqb-true channel c b.0, eqb-true key k b.1)))))
       (λ t. rw t)
-  message-stays delta channel (note_on key vel) h =
+  message_stays delta channel (note_on key vel) h =
       by-test (eqb channel c && eqb key k)
       (λ t.
       let b = both (eqb channel c) (eqb key k) t in
       absurd ((h delta vel).0 (Memᴰ.head (rw (eqb-true channel c b.0, eqb-true key k b.1)))))
       (λ t. rw t)
-  message-stays delta channel (aftertouch key vel) h = refl
-  message-stays delta channel (controller number value) h = refl
-  message-stays delta channel (program_change program) h = refl
-  message-stays delta channel (channel_aftertouch vel) h = refl
-  message-stays delta channel (pitch_bend raw) h = refl
+  message_stays delta channel (aftertouch key vel) h = refl
+  message_stays delta channel (controller number value) h = refl
+  message_stays delta channel (program_change program) h = refl
+  message_stays delta channel (channel_aftertouch vel) h = refl
+  message_stays delta channel (pitch_bend raw) h = refl
 
-  kind-stays : (delta : ℕ) (kind : Kind Span) → NoNote c k (event delta kind ∷ []) → change_by c k (kind_note kind) ≡ stays
+  kind_stays : (delta : ℕ) (kind : Kind Span) → NoNote c k (event delta kind ∷ []) → change_by c k (kind_note kind) ≡ stays
   unfolding change_by kind_note
-  kind-stays delta (midi channel m) h = message-stays delta channel m h
-  kind-stays delta (sys_ex p) h = refl
-  kind-stays delta (escape p) h = refl
-  kind-stays delta (meta m) h = refl
+  kind_stays delta (midi channel m) h = message_stays delta channel m h
+  kind_stays delta (sys_ex p) h = refl
+  kind_stays delta (escape p) h = refl
+  kind_stays delta (meta m) h = refl
 
   last_stays : (es : List (Event Span)) → NoNote c k es → last_note c k es ≡ stays
   unfolding last_note last_of
@@ -52,13 +52,13 @@ module _ (c k : ℕ) where
       let only : NoNote c k (e ∷ []) = λ delta vel.
       ((λ m. (h delta vel).0 (Memᴰ.head (Memᴰ.eq_of_singleton m))), (λ m. (h delta vel).1 (Memᴰ.head (Memᴰ.eq_of_singleton m)))) in
       let later : NoNote c k es = λ delta vel. ((λ m. (h delta vel).0 (Memᴰ.tail m)), (λ m. (h delta vel).1 (Memᴰ.tail m))) in
-      rw (last_stays es later) (kind-stays e.delta e.kind only)
+      rw (last_stays es later) (kind_stays e.delta e.kind only)
 
   -- a note message for them, and none behind it
-  last-note : (front behind : List (Event Span)) (e : Event Span) (v : ℕ) → kind_note e.kind ≡ note c k v → NoNote c k behind
+  last_note_lem : (front behind : List (Event Span)) (e : Event Span) (v : ℕ) → kind_note e.kind ≡ note c k v → NoNote c k behind
       → last_note c k (front ++ (e ∷ behind)) ≡ becomes v
   unfolding last_note last_of change_by
-  last-note front behind e v is h =
+  last_note_lem front behind e v is h =
       last_joined c k front (e ∷ behind) ∙ rw (last_stays behind h, is, eq-eqb c c refl, eq-eqb k k refl)
 
 pub leaves_last : (t : Table) (es : List (Event Span)) → LeavesLast t es (table_after t es)
@@ -68,8 +68,8 @@ leaves_last t es =
     = λ c k change hc hk is. entry_after t es c k hc hk ∙ ap (changed (entry t c k)) is in
     record {
       on = λ front behind delta c k vel hc hk e h.
-          after c k (becomes vel) hc hk (ap (last_note c k) e ∙ last-note c k front behind (event delta (midi c (note_on k vel))) vel refl h);
+          after c k (becomes vel) hc hk (ap (last_note c k) e ∙ last_note_lem c k front behind (event delta (midi c (note_on k vel))) vel refl h);
       off = λ front behind delta c k vel hc hk e h.
-          after c k (becomes 0) hc hk (ap (last_note c k) e ∙ last-note c k front behind (event delta (midi c (note_off k vel))) 0 refl h);
+          after c k (becomes 0) hc hk (ap (last_note c k) e ∙ last_note_lem c k front behind (event delta (midi c (note_off k vel))) 0 refl h);
       none = λ c k hc hk h. after c k stays hc hk (last_stays c k es h);
     }

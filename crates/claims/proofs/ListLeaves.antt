@@ -19,7 +19,7 @@ use Rattle.rows.specs.Rows.{width}
 use Rattle.rows.specs.RowLists.{rows_judged}
 use Rattle.claims.specs.Table.{among, OneOf, By, of_legality, of_list_length, of_list_writing}
 use Rattle.claims.specs.Leaves.{FirstIllegal, RefusedAt, SizeLeaves, ListLeaves}
-use Rattle.claims.proofs.Refusals.{all_among, one_of_more, one_of, legal-by, row_by}
+use Rattle.claims.proofs.Refusals.{all_among, one_of_more, one_of, legal_by, row_by}
 
 -- each of them is refused by the numbers of illegal events alone
 abbrev pub AllBy : List (Answer (Event (List ℕ))) → Type 0
@@ -28,7 +28,7 @@ AllBy (j ∷ js) = By of_legality j × AllBy js
 
 pub records_by : (rules : Rules) (bytes : List ℕ) (records : List (Event Span)) → AllBy (records_judged rules bytes records)
 records_by rules bytes [] = tt
-records_by rules bytes (r ∷ rs) = (legal-by rules bytes r, records_by rules bytes rs)
+records_by rules bytes (r ∷ rs) = (legal_by rules bytes r, records_by rules bytes rs)
 
 pub rows_by : (rules : Rules) (bytes : List ℕ) (n : ℕ) (cells : List ℕ) → AllBy (rows_judged rules bytes n cells)
 unfolding rows_judged
@@ -59,8 +59,8 @@ past_counted (suc i) (suc count) (j ∷ js) x later e = past_counted i count js 
 
 module _ (judged : List (Answer (Event (List ℕ)))) (numbered : AllBy judged) (count : ℕ) where
   -- the first of those that count which is illegal
-  first-illegal : (n i : ℕ) → checks.FirstIllegal (take count judged) n i → FirstIllegal judged count n i
-  first-illegal n i f =
+  first_illegal : (n i : ℕ) → checks.FirstIllegal (take count judged) n i → FirstIllegal judged count n i
+  first_illegal n i f =
       let long = length-drop i (take count judged) in
       let some = ap length f.there in
       let counted : i < count = omega (arith, long, some, length-take count judged) in
@@ -70,20 +70,20 @@ module _ (judged : List (Answer (Event (List ℕ)))) (numbered : AllBy judged) (
         there = past_counted i count judged (refuses n) f.later f.there;
       }
 
-  illegal-at : (ns : List ℕ) → all_among ns of_legality ≡ true → (n i : ℕ) → check 0 (take count judged) ≡ illegal n i → RefusedAt judged count ns n i
-  illegal-at ns more n i e =
+  illegal_at : (ns : List ℕ) → all_among ns of_legality ≡ true → (n i : ℕ) → check 0 (take count judged) ≡ illegal n i → RefusedAt judged count ns n i
+  illegal_at ns more n i e =
       let f = (check_illegal (take count judged) n i).0 e in
       let number : OneOf of_legality n = all_by count i n judged f.later numbered f.there in
       let no : false ≡ true → i ≡ 0 = λ h. absurd (true≢false (sym h)) in
       record {
         number = one_of_more ns of_legality n more number;
         none = one_of (λ m. among (1 ∷ 20 ∷ 21 ∷ []) m ≡ true → i ≡ 0) of_legality (no, (no, (no, (no, tt)))) n number;
-        first = λ _. first-illegal n i f;
+        first = λ _. first_illegal n i f;
       }
 
   -- 1, 20 and 21
-  none-at : (ns : List ℕ) (n : ℕ) → OneOf ns n → among of_legality n ≡ false → RefusedAt judged count ns n 0
-  none-at ns n h not = record { number = h; none = λ _. refl; first = λ e. absurd (true≢false (sym e ∙ not)) }
+  none_at : (ns : List ℕ) (n : ℕ) → OneOf ns n → among of_legality n ≡ false → RefusedAt judged count ns n 0
+  none_at ns n h not = record { number = h; none = λ _. refl; first = λ e. absurd (true≢false (sym e ∙ not)) }
 
   module _ (most running : ℕ) where
     abbrev SizeGood : ListSize → Type 0
@@ -92,14 +92,14 @@ module _ (judged : List (Answer (Event (List ℕ)))) (numbered : AllBy judged) (
     size-checked : (c : Checked) → check 0 (take count judged) ≡ c → SizeGood (size_checked running c)
     unfolding size_checked
     size-checked (all_legal es) e = tt
-    size-checked (illegal n i) e = (illegal-at of_list_length refl n i e, refl)
+    size-checked (illegal n i) e = (illegal_at of_list_length refl n i e, refl)
 
     pub size-leaves : SizeGood (size_list most running judged count)
     unfolding size_list
     size-leaves =
         pick_both SizeGood (is_running running)
-        (pick_both SizeGood (leb count most) (size-checked (check 0 (take count judged)) refl) (none-at of_list_length 21 refl refl, refl))
-        (none-at of_list_length 1 refl refl, refl)
+        (pick_both SizeGood (leb count most) (size-checked (check 0 (take count judged)) refl) (none_at of_list_length 21 refl refl, refl))
+        (none_at of_list_length 1 refl refl, refl)
 
     module _ (out : List ℕ) where
       abbrev Good : ListWritten → Type 0
@@ -107,12 +107,12 @@ module _ (judged : List (Answer (Event (List ℕ)))) (numbered : AllBy judged) (
 
       checked : (c : Checked) → check 0 (take count judged) ≡ c → Good (write_checked running out c)
       unfolding write_checked list_put
-      checked (illegal n i) e = (illegal-at of_list_writing refl n i e, refl, refl)
-      checked (all_legal es) e = pick_both Good (leb (length (encode_list running es)) (length out)) tt (none-at of_list_writing 20 refl refl, refl, refl)
+      checked (illegal n i) e = (illegal_at of_list_writing refl n i e, refl, refl)
+      checked (all_legal es) e = pick_both Good (leb (length (encode_list running es)) (length out)) tt (none_at of_list_writing 20 refl refl, refl, refl)
 
       pub list-leaves : Good (write_list most running judged count out)
       unfolding write_list
       list-leaves =
           pick_both Good (is_running running)
-          (pick_both Good (leb count most) (checked (check 0 (take count judged)) refl) (none-at of_list_writing 21 refl refl, refl, refl))
-          (none-at of_list_writing 1 refl refl, refl, refl)
+          (pick_both Good (leb count most) (checked (check 0 (take count judged)) refl) (none_at of_list_writing 21 refl refl, refl, refl))
+          (none_at of_list_writing 1 refl refl, refl, refl)

@@ -22,9 +22,9 @@ use Rattle.smf.specs.Kind.{meta, unknown}
 use Rattle.smf.specs.Place.{Span, inside}
 use Rattle.smf.specs.Event.{Event, ReadAt, reads_at, refused_at, event_at, meta_fits, kind_fits, carries, meta_carries, is_named, legal, encode_event, EventWritten, event_left, write_judged, write_event}
 use Rattle.smf.proofs.Answer.{by-test, by-lt, given, pick_test}
-use Rattle.smf.proofs.Write.{part-long, part_bytes}
+use Rattle.smf.proofs.Write.{part_long, part_bytes}
 use Rattle.smf.proofs.ListLegality.{given_length, check_illegal}
-use Rattle.smf.proofs.ListWrites.{write-invalid, write-many, write-illegal, write-full}
+use Rattle.smf.proofs.ListWrites.{write_invalid, write_many, write_illegal, write_full}
 use Rattle.base.specs.Rules.{rules_of}
 use Rattle.base.specs.declared.Rules as base
 use Rattle.base.specs.declared.Running.{Running}
@@ -50,7 +50,7 @@ use Rattle.loader_track.specs.Same.{sameness_answered}
 use Rattle.claims.specs.Literals.{up_to, Widths, Values, past_count, Records, LeftBehind, Left, SheetsRefused, Given, EventOrder, ListOrder, Order, Literals}
 use Rattle.claims.specs.SmfForms.{Unnamed}
 use Rattle.claims.proofs.Calls as calls
-use Rattle.claims.proofs.SmfForms.{unnamed-form}
+use Rattle.claims.proofs.SmfForms.{unnamed_form}
 use Rattle.claims.proofs.ReadLeaves.{event_or_left}
 use Rattle.claims.proofs.Stands.{list-stands}
 
@@ -184,7 +184,7 @@ limit_said : (bytes : List ℕ) (slice : Range) (out : List ℕ) (at : ℕ) (r :
     → slice.start + slice.length ≤ length bytes
     → (268435455 < slice.length → (written_to r ≡ refuses 22) × (end ≡ out)) × (slice.length ≤ 268435455 → written_to r ≡ refuses 22 → ⊥)
 limit_said bytes slice out at r end told inside = (
-  (λ long. let e : write_left r end ≡ left out 22 = told ∙ ap (λ (a : Answer (List ℕ)). write a out at) (part-long bytes slice.start slice.length inside (omega arith)) in
+  (λ long. let e : write_left r end ≡ left out 22 = told ∙ ap (λ (a : Answer (List ℕ)). write a out at) (part_long bytes slice.start slice.length inside (omega arith)) in
       (ap (λ (w : Written). w.answer) e, ap (λ (w : Written). w.buffer) e)),
   (λ short e. let p = part_bytes bytes slice.start slice.length inside (omega arith) in
       room_only _ out at (sym (ap (λ (w : Written). w.answer) (told ∙ ap (λ (a : Answer (List ℕ)). write a out at) p)) ∙ e)),
@@ -228,9 +228,9 @@ said_number n Rule (sameness.Told told) s = absurd s
 said_number n Rule (sameness.Refused m) s = s
 
 module _ (a : List ℕ) (m : ℕ) (b : List ℕ) (n : ℕ) where
-  sheets-refused : (Rule : Type 0) (z : Sameness) → Says z (lists_asked 128 a m b n) Rule → SheetsRefused a m b n (sameness_answered z)
+  sheets_refused : (Rule : Type 0) (z : Sameness) → Says z (lists_asked 128 a m b n) Rule → SheetsRefused a m b n (sameness_answered z)
   unfolding lists_asked
-  sheets-refused Rule z told =
+  sheets_refused Rule z told =
       record {
         first_many = λ h. said_number 21 Rule z (rw (lt-leb m 128 h) at told);
         second_many = λ h. by-test (leb m 128) (λ t. said_number 21 Rule z (rw (t, lt-leb n 128 h) at told)) (λ t. said_number 21 Rule z (rw t at told));
@@ -244,7 +244,7 @@ handed =
     record {
       flags = λ κs a z e told.
           ((λ n h. ap (λ (r : Rules). r.strict) told ∙ even a.0 n h), (λ n h. ap (λ (r : Rules). r.strict) told ∙ odd a.0 n h));
-      sheets = λ κs a z e told. sheets-refused a.0.now a.1.0 a.1.1.1.0.now a.1.1.1.1.0 _ z told;
+      sheets = λ κs a z e told. sheets_refused a.0.now a.1.0 a.1.1.1.0.now a.1.1.1.1.0 _ z told;
       row_short = λ κs a z e told h. told ∙ row_past a.0.now a.1.0 h;
     }
 
@@ -277,7 +277,7 @@ module _ (rules : Rules) (running : ℕ) (bytes : List ℕ) (e : Event Span) (ou
     named h l not =
         by-test (is_named rules t span.length)
         (λ n. rw (is, lt-ltb e.delta (2 ^ 28) (omega arith), le-leb (span.start + span.length) (length bytes) h, lt-ltb span.length (2 ^ 28) (omega arith), n))
-        (λ n. absurd (not (unnamed-form t span.length rules n)))
+        (λ n. absurd (not (unnamed_form t span.length rules n)))
 
   room : (l : Event (List ℕ)) → is_running running ≡ true → legal rules bytes e ≡ gives l → length out < at + length (encode_event running l) → refused 20
   unfolding write_event write_judged put
@@ -290,8 +290,8 @@ module _ (rules : Rules) (running : ℕ) (bytes : List ℕ) (e : Event Span) (ou
   abbrev answer : EventWritten → Answer ℕ
   answer w = w.written.answer
 
-  event-order : EventOrder running (legal rules bytes e) bytes e out at (write_event running (legal rules bytes e) out at).written.answer
-  event-order =
+  event_order : EventOrder running (legal rules bytes e) bytes e out at (write_event running (legal rules bytes e) out at).written.answer
+  event_order =
       record {
         first = λ not. ap answer (invalid not);
         wide = λ is h. ap answer (forbidden 18 is (wide h));
@@ -302,12 +302,12 @@ module _ (rules : Rules) (running : ℕ) (bytes : List ℕ) (e : Event Span) (ou
       }
 
 module _ (running : ℕ) (judged : List (Answer (Event (List ℕ)))) (count : ℕ) (out : List ℕ) where
-  abbrev list-answer : ListWritten → ListAnswer
-  list-answer w = w.answer
+  abbrev answer_of_list : ListWritten → ListAnswer
+  answer_of_list w = w.answer
 
-  first-illegal : (es : List (Event (List ℕ))) (n : ℕ) (later : List (Answer (Event (List ℕ)))) → take count judged ≡ map gives es ++ (refuses n ∷ later)
+  first_illegal : (es : List (Event (List ℕ))) (n : ℕ) (later : List (Answer (Event (List ℕ)))) → take count judged ≡ map gives es ++ (refuses n ∷ later)
       → check 0 (take count judged) ≡ illegal n (length es)
-  first-illegal es n later h =
+  first_illegal es n later h =
       (check_illegal (take count judged) n (length es)).1
       (record {
         events = es;
@@ -316,13 +316,13 @@ module _ (running : ℕ) (judged : List (Answer (Event (List ℕ)))) (count : �
         there = ap (drop (length es)) h ∙ drop_at (map gives es) (refuses n ∷ later) (length es) (given_length es);
       })
 
-  list-order : ListOrder running judged count out (write_list 128 running judged count out).answer
-  list-order =
+  list_order : ListOrder running judged count out (write_list 128 running judged count out).answer
+  list_order =
       record {
-        first = λ not. ap list-answer (write-invalid 128 running judged count out not);
-        many = λ is h. ap list-answer (write-many 128 running judged count out is h);
-        illegal = λ es n later is few h. ap list-answer (write-illegal 128 running judged count out is few (first-illegal es n later h));
-        room = λ es is few h full. ap list-answer (write-full 128 running judged count out is few es h full);
+        first = λ not. ap answer_of_list (write_invalid 128 running judged count out not);
+        many = λ is h. ap answer_of_list (write_many 128 running judged count out is h);
+        illegal = λ es n later is few h. ap answer_of_list (write_illegal 128 running judged count out is few (first_illegal es n later h));
+        room = λ es is few h full. ap answer_of_list (write_full 128 running judged count out is few es h full);
       }
 
 ordered : Order
@@ -330,13 +330,13 @@ ordered =
     record {
       event = calls.write_event_lem _ (λ event running rules bytes out at r end told.
           subst (λ (w : EventWritten). EventOrder running.status (legal (rules_of rules) bytes (event_of event)) bytes (event_of event) out at w.written.answer) (sym told)
-          (event-order (rules_of rules) running.status bytes (event_of event) out at));
+          (event_order (rules_of rules) running.status bytes (event_of event) out at));
       list = calls.write_list_lem _ (λ list running rules bytes out r end told.
           subst (λ (w : ListWritten). ListOrder running.status (records_judged (rules_of rules) bytes (map record_of list.records)) list.count out w.answer) (sym told)
-          (list-order running.status (records_judged (rules_of rules) bytes (map record_of list.records)) list.count out));
+          (list_order running.status (records_judged (rules_of rules) bytes (map record_of list.records)) list.count out));
       rows = calls.write_rows _ (λ rows count running rules bytes out r end told.
           subst (λ (w : ListWritten). ListOrder running.status (rows_judged (rules_of rules) bytes count rows) count out w.answer) (sym told)
-          (list-order running.status (rows_judged (rules_of rules) bytes count rows) count out));
+          (list_order running.status (rows_judged (rules_of rules) bytes count rows) count out));
     }
 
 pub literals : Literals

@@ -82,26 +82,26 @@ module _ (t : Table) (channel key c k : ℕ) (hk : key < keys) (s : Sounds t cha
   own_keys : Keyed (key_place c k) c k
   own_keys = record { channel = channel_back c k s.key_fits; key = key_back c k s.key_fits }
 
-  own-off : note_off_at (key_place c k) ≡ off c k
-  own-off = rw (own_keys.channel, own_keys.key)
+  own_off : note_off_at (key_place c k) ≡ off c k
+  own_off = rw (own_keys.channel, own_keys.key)
 
-  not-before : key_place channel key ≤ key_place c k
-  not-before =
+  not_before : key_place channel key ≤ key_place c k
+  not_before =
       by-lt (key_place c k) (key_place channel key)
       (λ h. by-lt c channel (λ less. absurd (s.behind (inl less))) (λ more. absurd (s.behind (inr (omega (arith, s.key_fits), omega (arith, s.key_fits))))))
       (λ h. h)
 
-  named-or-full : Memᴰ (off c k) (map note_off_at named)
+  named_or_full : Memᴰ (off c k) (map note_off_at named)
       ⊎ ((length (map note_off_at named) ≡ capacity) × ((c' k' : ℕ) → Memᴰ (off c' k') (map note_off_at named) → Before c' k' c k))
-  named-or-full =
+  named_or_full =
       ⊎_elim
-      (λ (there : Memᴰ (key_place c k) named). inl (rw own-off at (of_mem (key_place c k) named there)))
+      (λ (there : Memᴰ (key_place c k) named). inl (rw own_off at (of_mem (key_place c k) named there)))
       (λ (full : (length named ≡ capacity) × ((q : ℕ) → Memᴰ q named → q < key_place c k)).
       inr (
         length-map named note_off_at ∙ full.0,
-        λ c' k' m. let o = mem_of (off c' k') named m in before o.place (key_place c k) c' k' c k (sym o.own) own-off (full.1 o.place o.mem),
+        λ c' k' m. let o = mem_of (off c' k') named m in before o.place (key_place c k) c' k' c k (sym o.own) own_off (full.1 o.place o.mem),
       ))
-      (silenced_first capacity t (key_place channel key) (key_place c k) not-before (place_within c k s.channel_fits s.key_fits)
+      (silenced_first capacity t (key_place channel key) (key_place c k) not_before (place_within c k s.channel_fits s.key_fits)
       (rw (own_keys.channel, own_keys.key) s.not-nought))
 
 pub names : (t : Table) (channel key : ℕ) → channel < channels → key < keys → Names t channel key (silence_from capacity t (key_place channel key))
@@ -131,5 +131,5 @@ names t channel key hc hk =
             ),
           );
       order = λ front behind c k c' k' e. order_of place ps rising front behind c k c' k' e;
-      all = λ c k s. named-or-full t channel key c k hk s;
+      all = λ c k s. named_or_full t channel key c k hk s;
     }

@@ -79,13 +79,13 @@ all_types (r ∷ rs) [] p = absurd p
 all_types (r ∷ rs) (u ∷ us) p = (record_types r (u ∷ []) p.0, all_types rs us p.1)
 
 module _ (κs : Lfts 2) (a : Dens κs write_list_lem.Kinds.ps) (good : GoodsP κs write_list_lem.Kinds.ps a) where
-  pub full-list : length a.0.records ≡ capacity
-  full-list =
+  pub full_list : length a.0.records ≡ capacity
+  full_list =
       let parts = struct.owed list.the_type laws.the_laws a.0 (struct.val list.the_type laws.the_laws a.0 ∷ []) good.0 in
       sym (length-map a.0.records _) ∙ parts.0.1.0.1
 
-  pub list-types : TypeBytes (map record_of a.0.records)
-  list-types =
+  pub list_types : TypeBytes (map record_of a.0.records)
+  list_types =
       let parts = struct.owed list.the_type laws.the_laws a.0 (struct.val list.the_type laws.the_laws a.0 ∷ []) good.0 in
       all_types a.0.records parts.0.0 parts.0.1.1
 

@@ -20,11 +20,11 @@ use Rattle.smf.specs.Kind.{message_two, is_text, called_meta, called}
 use Rattle.smf.specs.Event.{Event, map_meta, map_kind, map_event, named, name_raw, read_event, EventAt, event_placed, reads_at, placed, event_at, encode_event, event_after, legal, EventWritten, write_event}
 use Rattle.smf.specs.Lists.{go_on, read_more, read_list, paddings, list_at, ListHeld, ListWritten, write_list, records_judged}
 use Rattle.smf.proofs.Answer.{said_of}
-use Rattle.smf.proofs.Number.{none_nil, reads_back, encode_unpadded, encode_is_number, encode_value, shortest, smf-number}
+use Rattle.smf.proofs.Number.{none_nil, reads_back, encode_unpadded, encode_is_number, encode_value, shortest, smf_number}
 use Rattle.smf.proofs.Place.{Reached, NumberReached, number_reached}
 use Rattle.smf.proofs.Event.{event_reads_back}
-use Rattle.smf.proofs.Legal.{is_legal, legal-strictly}
-use Rattle.smf.proofs.ListLegality.{given-itself, records-lawful}
+use Rattle.smf.proofs.Legal.{is_legal, legal_strictly}
+use Rattle.smf.proofs.ListLegality.{given_itself, records_lawful}
 use Rattle.base.specs.Rules.{rules_of}
 use Rattle.number.specs.Varlen.{write_left}
 use Rattle.event.specs.Event.{event_of}
@@ -37,12 +37,12 @@ use Rattle.claims.specs.Point3.{Bytes}
 use Rattle.claims.specs.SmfForms.{between}
 use Rattle.claims.specs.Padding.{NumbersWorked, EventsWorked, CutWorked, ListWorked, ShortestExactly, NumberUnpadded, EventUnpadded, ListUnpadded, Padding, EntryShortestExactly, EntryNumberUnpadded, EntryEventUnpadded, EntryListUnpadded, EntryPadding}
 use Rattle.claims.proofs.Bytes.{number_bytes_lem}
-use Rattle.claims.proofs.Refusals.{legal-by, row_by, number-at-by, number_bytes_by, by_more, write_keeps}
+use Rattle.claims.proofs.Refusals.{legal_by, row_by, number_at_by, number_bytes_by, by_more, write_keeps}
 use Rattle.claims.proofs.SmfForms.{over_between, put_is, number_shortest}
-use Rattle.claims.proofs.EventWrites.{event-wrote}
+use Rattle.claims.proofs.EventWrites.{event_wrote}
 use Rattle.claims.proofs.Point3Calls.{event_end, list_end}
 use Rattle.claims.proofs.ReadAgain.{again}
-use Rattle.claims.proofs.EntryPoint3.{put-answer, row-itself, entry-unpadded}
+use Rattle.claims.proofs.EntryPoint3.{put_answer, row_itself, entry_unpadded}
 
 -- A number's bytes are told by how many they are and by what they stand for
 
@@ -106,7 +106,7 @@ number_exactly : (rules : Rules) (s : List ℕ) (at : ℕ) (m : NumberAt) → ru
 number_exactly rules s at m strict are e =
     let r : Reached rules s at m = said_of (NumberReached rules s at) (number_reached rules s at) e in
     let n = numeral m.value (drop m.next s) in
-    let u = smf-number rules strict (drop at s) n r.read in
+    let u = smf_number rules strict (drop at s) n r.read in
     let used = u.0 in
     let few = shortest rules strict (drop at s) n r.read in
     let some = number_some 4 used u.2 in
@@ -141,14 +141,14 @@ module _ (rules : Rules) (running : ℕ) (j : Answer (Event (List ℕ))) (number
       → (a : EventAt) × (event_at rules' running raw at' ≡ reads_at a) × (a.padding ≡ 0)
   unfolding event_at placed
   event_written rules' alike raw at' rest q =
-      let a = event-wrote running j numbered out at n h in
+      let a = event_wrote running j numbered out at n h in
       let e = a.event in
       let bs = encode_event running e in
       let own : between at n (write_event running j out at).written.buffer ≡ bs =
       ap (between at n) a.own ∙ ap (λ (k : ℕ). between at k (over bs out at)) a.size ∙ over_between bs out at a.room
       in
       let stands : drop at' raw ≡ bs ++ rest = q ∙ ap (λ (l : List ℕ). l ++ rest) own in
-      let is : is_legal rules' e ≡ true = sym (legal-strictly rules' e) ∙ ap (λ (r : Rules). is_legal r e) alike ∙ legal-strictly rules e ∙ legal e a.legal in
+      let is : is_legal rules' e ≡ true = sym (legal_strictly rules' e) ∙ ap (λ (r : Rules). is_legal r e) alike ∙ legal_strictly rules e ∙ legal e a.legal in
       (event_placed raw at' (taken e rest (event_after e) 0), ap (placed raw at') (ap (read_event rules' running) stands ∙ event_reads_back rules' running e rest a.valid is), refl)
 
 -- Worked by hand
@@ -185,7 +185,7 @@ event_unpadded κs a r e told n h κs' a' r' e' told' rest q same alike =
     let bytes = (fourth a).now in
     let own = event_of (first a) in
     let end = sym (event_end r (fifth e).now) ∙ ap (λ (x : EventWritten). x.written.buffer) told in
-    let w = event_written rules (second a).status (legal rules bytes own) (legal-by rules bytes own) (λ x g. (given-itself rules bytes own x g).1)
+    let w = event_written rules (second a).status (legal rules bytes own) (legal_by rules bytes own) (λ x g. (given_itself rules bytes own x g).1)
     (fifth a).now (sixth a) n (sym (ap (λ (x : EventWritten). x.written.answer) told) ∙ h) (rules_of (fourth a')) alike (first a').now (second a') rest (rw end at q)
     in
     (w.0, rw same at told' ∙ w.1, w.2)
@@ -198,7 +198,7 @@ list_unpadded κs a r e told n h κs' a' r' e' told' q z same strict =
     let judged = records_judged rules bytes records in
     let running = (second a).status in
     let out = (fifth a).now in
-    let g = again rules capacity running judged (first a).count out n (records-lawful rules bytes records) (sym (ap (λ (w : ListWritten). w.answer) told) ∙ h) in
+    let g = again rules capacity running judged (first a).count out n (records_lawful rules bytes records) (sym (ap (λ (w : ListWritten). w.answer) told) ∙ h) in
     let own : (first a').now ≡ take n (write_list capacity running judged (first a).count out).buffer = q ∙ ap (take n) (sym (list_end r (fifth e).now) ∙ ap (λ (w : ListWritten). w.buffer) told) in
     ap (λ (l : ListHeld). l.padding) (rw (own, z, same, strict) at told') ∙ g.padding
 
@@ -230,15 +230,15 @@ module _ (x : Answer NumberAt) (v n p : ℕ) where
   NumberTold r v' n' p' =
       (r ≡ answered x) × ((v' ≡ leaves (λ (m : NumberAt). m.value) x v) × ((n' ≡ leaves (λ (m : NumberAt). m.next) x n) × (p' ≡ leaves (λ (m : NumberAt). m.padding) x p)))
 
-  number-told : (m : NumberAt) → x ≡ gives m → {r v' n' p' : ℕ} → NumberTold r v' n' p' → (r ≡ 0) × (v' ≡ m.value) × (n' ≡ m.next) × (p' ≡ m.padding)
-  number-told m e told = let t = rw e at told in (t.0, t.1.0, t.1.1.0, t.1.1.1)
+  number_told : (m : NumberAt) → x ≡ gives m → {r v' n' p' : ℕ} → NumberTold r v' n' p' → (r ≡ 0) × (v' ≡ m.value) × (n' ≡ m.next) × (p' ≡ m.padding)
+  number_told m e told = let t = rw e at told in (t.0, t.1.0, t.1.1.0, t.1.1.1)
 
 entry_number : (rules : Rules) (s : List ℕ) (at v n p : ℕ) {r v' n' p' : ℕ} → NumberTold (number_at rules s at) v n p r v' n' p'
     → r ≡ 0 → rules.strict ≡ true → Bytes s → (p' ≡ 0) ↔ (between at n' s ≡ encode_number v')
 entry_number rules s at v n p told z strict are =
     let x = number_at rules s at in
-    let g = told_given (of_number rules.strict) x (number-at-by rules s at) told.0 z in
-    let t = number-told x v n p g.0 g.1 told in
+    let g = told_given (of_number rules.strict) x (number_at_by rules s at) told.0 z in
+    let t = number_told x v n p g.0 g.1 told in
     rw (t.1, t.2, t.3) (number_exactly rules s at g.0 strict are g.1)
 
 entry_number_written : (rules : Rules) (v : ℕ) (out : List ℕ) (at next : ℕ) {r next' : ℕ} {out' : List ℕ}
@@ -253,7 +253,7 @@ entry_number_written rules v out at next {next' = next'} told z raw at' v₀ n�
     let g = told_given ns w.answer by told.0 z in
     let end : next' ≡ g.0 = rw g.1 at told.1.1 in
     let m = number_written rules v out at g.0 w refl g.1 raw at' rest (rw (told.1.0, end) at q) in
-    let t = number-told (number_at rules raw at') v₀ n₀ p₀ m.0 m.1 told' in
+    let t = number_told (number_at rules raw at') v₀ n₀ p₀ m.0 m.1 told' in
     (t.0, t.1 ∙ m.2, t.3 ∙ m.3)
 
 entry_shortest_exactly : EntryShortestExactly
@@ -269,8 +269,8 @@ entry_event_unpadded κs a r e told z κs' a' r' e' told' rest q same alike =
     let rules = from_bits (fourth a) in
     let payload = (second a).now in
     let row = (first a).now in
-    let w = event_written rules (third a) (row_judged rules payload row) (row_by rules payload row) (λ x g. (row-itself rules payload row x g).1)
-    (fifth a).now (sixth a) _ (put-answer rules (third a) payload row (fifth a).now (sixth a) (seventh a).now told z)
+    let w = event_written rules (third a) (row_judged rules payload row) (row_by rules payload row) (λ x g. (row_itself rules payload row x g).1)
+    (fifth a).now (sixth a) _ (put_answer rules (third a) payload row (fifth a).now (sixth a) (seventh a).now told z)
     (from_bits (fourth a')) alike (first a').now (second a') rest (rw told.1.0 at q)
     in
     let t = rw (same, w.1) at told' in
@@ -278,7 +278,7 @@ entry_event_unpadded κs a r e told z κs' a' r' e' told' rest q same alike =
 
 entry_list_unpadded : EntryListUnpadded
 entry_list_unpadded κs a r e told z κs' a' r' e' told' q at_first same alike =
-    entry-unpadded (from_bits (fifth a)) (fourth a) (third a).now (first a).now (second a) (sixth a).now (seventh a).now (ninth a).now told z
+    entry_unpadded (from_bits (fifth a)) (fourth a) (third a).now (first a).now (second a) (sixth a).now (seventh a).now (ninth a).now told z
     (first a').now (second a') (third a') (from_bits (fourth a')) (fifth a').now (sixth a').now (seventh a').now (eighth a').now (ninth a').now told' q at_first same alike
 
 pub entry_padding : EntryPadding

@@ -42,30 +42,30 @@ silence_by most t channel key = pick_both (By (18 ∷ [])) (within 4 channel && 
 
 -- what is given, or what stands in for it and a refusal's number
 module _ {A : Type 0} (ns : List ℕ) (other : A) where
-  beside-answers : (x : Answer A) → By ns x → AnswersBy ns (beside other x).number ((beside other x).value ≡ other)
+  beside_answers : (x : Answer A) → By ns x → AnswersBy ns (beside other x).number ((beside other x).value ≡ other)
   unfolding beside
-  beside-answers (gives a) b = tt
-  beside-answers (refuses zero) b = absurd (true≢false (sym b))
-  beside-answers (refuses (suc n)) b = (b, refl)
+  beside_answers (gives a) b = tt
+  beside_answers (refuses zero) b = absurd (true≢false (sym b))
+  beside_answers (refuses (suc n)) b = (b, refl)
 
   module _ {B : Type 0} (x : Answer B) (f : B → A) {value : A} {number : ℕ} (told : with_number value number ≡ beside other (and_then x (λ (y : B). gives (f y)))) where
     -- it refuses by the numbers that its first part does
     pub answers-beside : By ns x → AnswersBy ns number (value ≡ other)
     answers-beside b =
         rw (ap (λ (w : Beside A). w.number) told, ap (λ (w : Beside A). w.value) told)
-        (beside-answers (and_then x (λ (y : B). gives (f y))) (then_by ns x (λ (y : B). gives (f y)) b (λ y. tt)))
+        (beside_answers (and_then x (λ (y : B). gives (f y))) (then_by ns x (λ (y : B). gives (f y)) b (λ y. tt)))
 
 -- Acceptance
 
 module _ {A B : Type 0} (other : A) (x : Answer B) (f : B → A) {value : A} {number : ℕ} (told : with_number value number ≡ beside other (and_then x (λ (y : B). gives (f y)))) where
   -- what is given is made of what its first part gives
-  pub given-beside : (y : B) → x ≡ gives y → (number ≡ 0) × (value ≡ f y)
+  pub given_beside : (y : B) → x ≡ gives y → (number ≡ 0) × (value ≡ f y)
   unfolding beside
-  given-beside y e = let t = rw e at told in (ap (λ (w : Beside A). w.number) t, ap (λ (w : Beside A). w.value) t)
+  given_beside y e = let t = rw e at told in (ap (λ (w : Beside A). w.number) t, ap (λ (w : Beside A). w.value) t)
 
-  pub refused-beside : (n : ℕ) → x ≡ refuses n → (number ≡ n) × (value ≡ other)
+  pub refused_beside : (n : ℕ) → x ≡ refuses n → (number ≡ n) × (value ≡ other)
   unfolding beside
-  refused-beside n e = let t = rw e at told in (ap (λ (w : Beside A). w.number) t, ap (λ (w : Beside A). w.value) t)
+  refused_beside n e = let t = rw e at told in (ap (λ (w : Beside A). w.number) t, ap (λ (w : Beside A). w.value) t)
 
 -- a refusal of the table is not 0
 pub never_nought : {A : Type 0} (ns : List ℕ) (x : Answer A) (n : ℕ) → By ns x → x ≡ refuses n → n ≡ 0 → ⊥
@@ -77,41 +77,41 @@ module _ (most : ℕ) (records : List (Event Span)) (count : ℕ) where
   unfolding accepted
   accepts few fit = rw (le-leb count most few, fit)
 
-  pub accepts-only : (es : List (Event Span)) → accepted most records count ≡ gives es → (count ≤ most) × (all_within es ≡ true) × (take count records ≡ es)
+  pub accepts_only : (es : List (Event Span)) → accepted most records count ≡ gives es → (count ≤ most) × (all_within es ≡ true) × (take count records ≡ es)
   unfolding accepted
-  accepts-only es e =
+  accepts_only es e =
       by-test (leb count most)
       (λ t.
       let g = given (all_within (take count records)) (take count records) 18 (rw t at e) in
       (leb-true count most t, rw (← g.1) g.0, g.1))
       (λ t. let q : ◌≡◌ {A = Answer (List (Event Span))} (refuses 21) (gives es) = rw t at e in let z : ◌≡◌ {A = ℕ} 0 1 = cc in absurd (omega arith))
 
-  pub accepts-few : most < count → accepted most records count ≡ refuses 21
+  pub accepts_few : most < count → accepted most records count ≡ refuses 21
   unfolding accepted
-  accepts-few many = rw (lt-leb count most many)
+  accepts_few many = rw (lt-leb count most many)
 
-  pub accepts-within : count ≤ most → all_within (take count records) ≡ false → accepted most records count ≡ refuses 18
+  pub accepts_within : count ≤ most → all_within (take count records) ≡ false → accepted most records count ≡ refuses 18
   unfolding accepted
-  accepts-within few wide = rw (le-leb count most few, wide)
+  accepts_within few wide = rw (le-leb count most few, wide)
 
 -- and rows, where each is an event's too
 module _ (most : ℕ) (cells : List ℕ) (count : ℕ) where
-  pub rows-accepts : count ≤ most → are_rows count cells ≡ true → all_within (called_rows count cells) ≡ true → rows_accepted most cells count ≡ gives (called_rows count cells)
+  pub rows_accepts : count ≤ most → are_rows count cells ≡ true → all_within (called_rows count cells) ≡ true → rows_accepted most cells count ≡ gives (called_rows count cells)
   unfolding rows_accepted
-  rows-accepts few are fit = rw (le-leb count most few, are, fit)
+  rows_accepts few are fit = rw (le-leb count most few, are, fit)
 
-  pub rows-accepts-few : most < count → rows_accepted most cells count ≡ refuses 21
+  pub rows_accepts_few : most < count → rows_accepted most cells count ≡ refuses 21
   unfolding rows_accepted
-  rows-accepts-few many = rw (lt-leb count most many)
+  rows_accepts_few many = rw (lt-leb count most many)
 
-  pub rows-accepts-within : count ≤ most → (are_rows count cells && all_within (called_rows count cells)) ≡ false → rows_accepted most cells count ≡ refuses 18
+  pub rows_accepts_within : count ≤ most → (are_rows count cells && all_within (called_rows count cells)) ≡ false → rows_accepted most cells count ≡ refuses 18
   unfolding rows_accepted
-  rows-accepts-within few wide = rw (le-leb count most few, wide)
+  rows_accepts_within few wide = rw (le-leb count most few, wide)
 
-  pub rows-accepts-only : (es : List (Event Span)) → rows_accepted most cells count ≡ gives es
+  pub rows_accepts_only : (es : List (Event Span)) → rows_accepted most cells count ≡ gives es
       → (count ≤ most) × ((are_rows count cells && all_within (called_rows count cells)) ≡ true) × (called_rows count cells ≡ es)
   unfolding rows_accepted
-  rows-accepts-only es e =
+  rows_accepts_only es e =
       by-test (leb count most)
       (λ t.
       let g = given (are_rows count cells && all_within (called_rows count cells)) (called_rows count cells) 18 (rw t at e) in
@@ -124,9 +124,9 @@ module _ (most : ℕ) (t : Table) (channel key : ℕ) where
   unfolding silence
   asks hc hk = rw (lt-ltb channel 16 hc, lt-ltb key 128 hk)
 
-  pub asks-only : (es : List (Event Span)) → silence most t channel key ≡ gives es → (channel < channels) × (key < keys) × (silence_from most t (key_place channel key) ≡ es)
+  pub asks_only : (es : List (Event Span)) → silence most t channel key ≡ gives es → (channel < channels) × (key < keys) × (silence_from most t (key_place channel key) ≡ es)
   unfolding silence
-  asks-only es e =
+  asks_only es e =
       let g = given (within 4 channel && within 7 key) (silence_from most t (key_place channel key)) 18 e in
       let b = both (within 4 channel) (within 7 key) g.0 in
       (ltb-true channel 16 b.0, ltb-true key 128 b.1, g.1)

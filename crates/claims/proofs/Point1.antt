@@ -34,12 +34,12 @@ use Rattle.claims.specs.Stands.{EventOrLeft, ListStands}
 use Rattle.claims.specs.Leaves.{EventLeaves, SizeLeaves, ListLeaves}
 use Rattle.claims.specs.Point1.{Numbered, Point1}
 use Rattle.claims.proofs.Calls as calls
-use Rattle.claims.proofs.Refusals.{by_more, number-at-by, payload-at-by, meta-at-by, width_by, format_by, rate_by, timing_by, timing_bytes_by, time_by, time_of_by, time_bytes_by, seconds_by, position_by, bend_by, bend_float_by, number_bytes_by, payload_bytes_by, write_keeps, legal-by, row_by, event_length_by}
+use Rattle.claims.proofs.Refusals.{by_more, number_at_by, payload_at_by, meta_at_by, width_by, format_by, rate_by, timing_by, timing_bytes_by, time_by, time_of_by, time_bytes_by, seconds_by, position_by, bend_by, bend_float_by, number_bytes_by, payload_bytes_by, write_keeps, legal_by, row_by, event_length_by}
 use Rattle.claims.proofs.BankRefusals.{bank_by, track_by, listed_by, ranges_bank_by, part_by, bank_keeps, list_keeps}
 use Rattle.claims.proofs.Player.{accepted_by, silence_by, answers-beside}
 use Rattle.claims.proofs.ReadLeaves.{event_or_left}
 use Rattle.claims.proofs.Stands.{list-stands}
-use Rattle.claims.proofs.EventWrites.{event-leaves}
+use Rattle.claims.proofs.EventWrites.{event_leaves}
 use Rattle.claims.proofs.ListLeaves.{records_by, rows_by, size-leaves, list-leaves}
 
 table : (n : Refusal) → in_table (number_of n) ≡ true
@@ -97,7 +97,7 @@ numbered =
       bend_as_int = λ κs a z e told. of (18 ∷ []) told (bend_by _);
       bend_as_f32 = λ κs a z e told. of (18 ∷ []) told.0 (bend_float_by binary32 _);
       bend_as_f64 = λ κs a z e told. of (18 ∷ []) told.0 (bend_float_by binary64 _);
-      event_length = λ κs a z e told. of of_length told (event_length_by _ _ (legal-by _ _ _));
+      event_length = λ κs a z e told. of of_length told (event_length_by _ _ (legal_by _ _ _));
       row_length = λ κs a z e told. of of_length told (event_length_by _ _ (row_by _ _ _));
     }
 
@@ -111,9 +111,9 @@ point_1 =
     record {
       table = table;
       numbered = numbered;
-      read_u7 = calls.read_u7 _ (λ raw at rules r told. of (of_number rules.strict) told (number-at-by (rules_of rules) raw at));
-      read_varlen_slice = calls.read_varlen_slice _ (λ raw at rules r told. of (of_payload rules.strict) told (payload-at-by (rules_of rules) raw at));
-      meta_message_read = calls.read_meta_lem _ (λ raw at rules r told. of (of_meta rules.strict) told (meta-at-by (rules_of rules) raw at));
+      read_u7 = calls.read_u7 _ (λ raw at rules r told. of (of_number rules.strict) told (number_at_by (rules_of rules) raw at));
+      read_varlen_slice = calls.read_varlen_slice _ (λ raw at rules r told. of (of_payload rules.strict) told (payload_at_by (rules_of rules) raw at));
+      meta_message_read = calls.read_meta_lem _ (λ raw at rules r told. of (of_meta rules.strict) told (meta_at_by (rules_of rules) raw at));
       write_varlen = calls.write_varlen _ (λ self out at r end told.
           subst (λ (w : smf.Written). Keeps (18 ∷ 20 ∷ []) w.answer out w.buffer) (sym told)
           (write_keeps (18 ∷ 20 ∷ []) (number_bytes self.0) out at (by_more (18 ∷ 20 ∷ []) (18 ∷ []) (number_bytes self.0) refl (number_bytes_by self.0)) refl));
@@ -126,10 +126,10 @@ point_1 =
       event_list_read = calls.read_list_lem _ list_said;
       write_event_lem = calls.write_event_lem _ (λ event running rules bytes out at r end told.
           subst (λ (w : EventWritten). EventLeaves running.status at out w w.written.answer) (sym told)
-          (event-leaves running.status (legal (rules_of rules) bytes (event_of event)) (legal-by (rules_of rules) bytes (event_of event)) out at));
+          (event_leaves running.status (legal (rules_of rules) bytes (event_of event)) (legal_by (rules_of rules) bytes (event_of event)) out at));
       write_row = calls.write_row _ (λ row running rules bytes out at r end told.
           subst (λ (w : EventWritten). EventLeaves running.status at out w w.written.answer) (sym told)
-          (event-leaves running.status (row_judged (rules_of rules) bytes row) (row_by (rules_of rules) bytes row) out at));
+          (event_leaves running.status (row_judged (rules_of rules) bytes row) (row_by (rules_of rules) bytes row) out at));
       list_length = calls.list_length _ (λ list running rules bytes r told.
           subst (λ (w : ListSize). SizeLeaves (records_judged (rules_of rules) bytes (map record_of list.records)) list.count running.status w w.answer) (sym told)
           (size-leaves (records_judged (rules_of rules) bytes (map record_of list.records)) (records_by (rules_of rules) bytes (map record_of list.records)) list.count capacity running.status));

@@ -17,7 +17,7 @@ use Rattle.smf.specs.Kind.{message_two, is_text, called_meta, called, note_on, t
 use Rattle.smf.specs.Event.{Event, event, map_meta, map_kind, map_event, named, name_raw, read_event, legal, encode_event, write_judged, write_event, Same}
 use Rattle.smf.specs.Lists.{go_on, read_more, read_list, paddings, ListAt, list_at, filler, ended, ListHeld, holding, held_as}
 use Rattle.smf.proofs.Answer.{said_of}
-use Rattle.smf.proofs.Number.{smf_read, smf-number}
+use Rattle.smf.proofs.Number.{smf_read, smf_number}
 use Rattle.smf.proofs.Place.{Reached, NumberReached, number_reached}
 use Rattle.base.specs.Rules.{rules_of}
 use Rattle.number.specs.Varlen.{number_read_of}
@@ -44,13 +44,13 @@ module _ (rules : Rules) where
   unfolding is_running ahead encode_number number_from read_number data_length read_one read_two read_channel read_status read_body after_delta read_raw message_two called map_kind map_event named name_raw read_event go_on read_more read_list paddings list_at
   two_read = refl
 
-  one-read : list_at rules capacity 0 p1 0 ≡ whole (event 0 (midi 0 (note_on 60 64)) ∷ []) 4 0x90
+  one_read : list_at rules capacity 0 p1 0 ≡ whole (event 0 (midi 0 (note_on 60 64)) ∷ []) 4 0x90
   unfolding is_running ahead encode_number number_from read_number data_length read_one read_two read_channel read_status read_body after_delta read_raw message_two called map_kind map_event named name_raw read_event go_on read_more read_list paddings list_at
-  one-read = refl
+  one_read = refl
 
-  tempo-read : list_at rules capacity 0 p3 0 ≡ whole (event 0 (meta (tempo 500000)) ∷ []) 7 0
+  tempo_read : list_at rules capacity 0 p3 0 ≡ whole (event 0 (meta (tempo 500000)) ∷ []) 7 0
   unfolding is_running ahead encode_number number_from read_number payload_after read_payload data_length read_meta read_status read_body after_delta read_raw is_text called_meta called map_meta map_kind map_event named name_raw read_event go_on read_more read_list paddings list_at
-  tempo-read = refl
+  tempo_read = refl
 
 -- the note with velocity 64, the one with velocity 0, and the tempo
 abbrev struck : Event Span
@@ -104,13 +104,13 @@ other : (raw : List ℕ) (r : ReadList) → nth r 0 ≡ struck
     → (raw' : List ℕ) (at : ℕ) (running : Running) (rules : base.Rules) (r' : ReadList) → list_read r' ≡ held_as capacity (list_at (rules_of rules) capacity running.status raw' at)
     → OtherEvent raw r raw' at running rules r'
 other raw r first raw' at running rules r' told q z none =
-    let h : list_read r' ≡ held_as capacity (whole (slow ∷ []) 7 0) = rw (q, z, none, tempo-read (rules_of rules)) at told in
+    let h : list_read r' ≡ held_as capacity (whole (slow ∷ []) 7 0) = rw (q, z, none, tempo_read (rules_of rules)) at told in
     (count_is r' (slow ∷ []) 7 0 h, (λ same. kinds raw raw' (rw (first, first_is r' slow [] 7 0 h) at same)))
 
 one : (raw : List ℕ) (at : ℕ) (running : Running) (rules : base.Rules) (r : ReadList) → list_read r ≡ held_as capacity (list_at (rules_of rules) capacity running.status raw at)
     → raw ≡ p1 → at ≡ 0 → running.status ≡ 0 → ((list_read r).list.count ≡ 1) × EventListRead (OtherEvent raw r)
 one raw at running rules r told q z none =
-    let h : list_read r ≡ held_as capacity (whole (struck ∷ []) 4 0x90) = rw (q, z, none, one-read (rules_of rules)) at told in
+    let h : list_read r ≡ held_as capacity (whole (struck ∷ []) 4 0x90) = rw (q, z, none, one_read (rules_of rules)) at told in
     (count_is r (struck ∷ []) 4 0x90 h, calls.read_list_lem (OtherEvent raw r) (other raw r (first_is r struck [] 4 0x90 h)))
 
 -- a legal event that has room
@@ -138,7 +138,7 @@ number_only : (rules : Rules) (s : List ℕ) (at : ℕ) (m : NumberAt) → rules
     → (n : List ℕ) × (is_number 4 n ≡ true) × (m.value ≡ value_from 0 n) × (drop at s ≡ n ++ drop m.next s)
 number_only rules s at m strict e =
     let r : Reached rules s at m = said_of (NumberReached rules s at) (number_reached rules s at) e in
-    let u = smf-number rules strict (drop at s) (numeral m.value (drop m.next s)) r.read in
+    let u = smf_number rules strict (drop at s) (numeral m.value (drop m.next s)) r.read in
     (u.0, u.2, u.3, u.1)
 
 number_said : (raw : List ℕ) (at : ℕ) (rules : base.Rules) (r : ReadNumber) → number_read_of r ≡ number_at (rules_of rules) raw at

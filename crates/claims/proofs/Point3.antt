@@ -11,10 +11,10 @@ use Rattle.smf.specs.Write.{over}
 use Rattle.smf.specs.Event.{Event}
 use Rattle.smf.specs.Lists.{read_list, paddings, encode_list, ListWritten, wrote, write_list}
 use Rattle.smf.proofs.Write.{length_over}
-use Rattle.smf.proofs.Legal.{AllLegal, all-strictly}
-use Rattle.smf.proofs.Lists.{ReadsBack, list-reads-back, list_read, list-valid}
-use Rattle.smf.proofs.ListLegality.{given_length, Lawful, lawful_all, lawful_take, records-lawful}
-use Rattle.smf.proofs.ListWrites.{write-wrote, write-refused, write-fits, front_own, front_beyond}
+use Rattle.smf.proofs.Legal.{AllLegal, all_strictly}
+use Rattle.smf.proofs.Lists.{ReadsBack, list_reads_back, list_read, list_valid}
+use Rattle.smf.proofs.ListLegality.{given_length, Lawful, lawful_all, lawful_take, records_lawful}
+use Rattle.smf.proofs.ListWrites.{write_wrote, write_refused, write-fits, front_own, front_beyond}
 use Rattle.rows.specs.Rows.{width}
 use Rattle.rows.specs.RowLists.{rows_judged}
 use Rattle.write.proofs.Judging.{row_lawful}
@@ -35,7 +35,7 @@ module _ (rules : Rules) (most running : ℕ) where
       omega (arith, short, ap (λ (l : List (Event (List ℕ))). length (encode_list running l)) r.events)
 
   valid : (es : List (Event (List ℕ))) (s : List ℕ) → ReadsStrictly rules most running es s → is_running running ≡ true
-  valid es s r = list-valid (strict_of rules) most running s r.all
+  valid es s r = list_valid (strict_of rules) most running s r.all
 
   module _ (judged : List (Answer (Event (List ℕ)))) (lawful : Lawful rules judged) (count : ℕ) where
     laws : (es : List (Event (List ℕ))) → take count judged ≡ map gives es → AllLegal rules es
@@ -45,28 +45,28 @@ module _ (rules : Rules) (most running : ℕ) where
         → ReadsBack (read_list (strict_of rules) most running (encode_list running es)) running es
     back es is few legal =
         let few' : length es ≤ most = omega (arith, given_length es, ap length legal, length-take count judged) in
-        list-reads-back (strict_of rules) most running es is (all-strictly rules es (laws es legal)) few'
+        list_reads_back (strict_of rules) most running es is (all_strictly rules es (laws es legal)) few'
 
     module _ (buffer : List ℕ) where
       abbrev written : ListWritten
       written = write_list most running judged count buffer
 
       -- the own bytes stand in front
-      own-front : (n : ℕ) (e : written.answer ≡ wrote n) → take n written.buffer ≡ encode_list running (write-wrote most running judged count buffer n e).events
+      own-front : (n : ℕ) (e : written.answer ≡ wrote n) → take n written.buffer ≡ encode_list running (write_wrote most running judged count buffer n e).events
       own-front n e =
-          let a = write-wrote most running judged count buffer n e in
+          let a = write_wrote most running judged count buffer n e in
           let own = encode_list running a.events in
           ap (take n) a.front ∙ ap (λ (k : ℕ). take k (over own buffer 0)) a.size ∙ front_own own buffer
 
       -- and have no padding
       pub unpadded : (n : ℕ) → written.answer ≡ wrote n → paddings (read_list (strict_of rules) most running (take n written.buffer)).events ≡ 0
       unpadded n e =
-          let a = write-wrote most running judged count buffer n e in
+          let a = write_wrote most running judged count buffer n e in
           rw (own-front n e) (back a.events a.valid a.few a.legal).padding
 
       accepted : (n : ℕ) → written.answer ≡ wrote n → Accepted rules most running judged count buffer written n
       accepted n e =
-          let a = write-wrote most running judged count buffer n e in
+          let a = write_wrote most running judged count buffer n e in
           let own = encode_list running a.events in
           let b = back a.events a.valid a.few a.legal in
           let front = own-front n e in
@@ -92,7 +92,7 @@ module _ (rules : Rules) (most running : ℕ) where
       -- and where they are written, they are bytes that fit
       some_fit : (n : ℕ) → written.answer ≡ wrote n → Fits rules most running judged count buffer
       some_fit n e =
-          let a = write-wrote most running judged count buffer n e in
+          let a = write_wrote most running judged count buffer n e in
           let b = back a.events a.valid a.few a.legal in
           (a.few, (a.events, a.legal, (encode_list running a.events, omega (arith, a.size, a.room), record { events = b.events; all = b.stop }, list_bytes rules running a.events (laws a.events a.legal))))
 
@@ -102,8 +102,8 @@ module _ (rules : Rules) (most running : ℕ) where
           record {
             accepts = ((λ w. some_fit w.0 w.1), (λ f. (length (encode_list running f.1.0), own-fit f)));
             accepted = accepted;
-            refused = write-refused most running judged count buffer;
+            refused = write_refused most running judged count buffer;
           }
 
 pub writes : Writes
-writes rules most running bytes records count buffer = list-write-says rules most running _ (records-lawful rules bytes records) count buffer
+writes rules most running bytes records count buffer = list-write-says rules most running _ (records_lawful rules bytes records) count buffer

@@ -13,9 +13,9 @@ use Rattle.smf.specs.Write.{over}
 use Rattle.smf.specs.Event.{Event, map_event, Same, legal, encode_event, EventWritten, write_event}
 use Rattle.smf.specs.Lists.{records_judged, listed, ListAt, list_at, filler, holding, held_as, ListHeld, wrote, ListWritten, write_list, counted}
 use Rattle.smf.proofs.Event as smf
-use Rattle.smf.proofs.Legal.{is_legal, legal-strictly}
-use Rattle.smf.proofs.ListLegality.{given-itself, records-lawful, records-themselves}
-use Rattle.smf.proofs.ListWrites.{write-wrote, front_own}
+use Rattle.smf.proofs.Legal.{is_legal, legal_strictly}
+use Rattle.smf.proofs.ListLegality.{given_itself, records_lawful, records_themselves}
+use Rattle.smf.proofs.ListWrites.{write_wrote, front_own}
 use Rattle.base.specs.Rules.{rules_of}
 use Rattle.base.specs.declared.Rules as base
 use Rattle.base.specs.declared.Running.{Running}
@@ -35,10 +35,10 @@ use Rattle.claims.specs.Point3.{Bytes, FitsAsBytes, ListWriteSays, ReadBack, Rea
 use Rattle.claims.specs.Calls.{EventListRead, WriteEvent}
 use Rattle.claims.proofs.Calls as calls
 use Rattle.claims.proofs.Point3.{rows_lawful, list-write-says, writes}
-use Rattle.claims.proofs.Refusals.{legal-by}
-use Rattle.claims.proofs.Carried.{TypeBytes, records-carry, rows-carry, fits-as-bytes}
-use Rattle.claims.proofs.Owned.{full-list, list-types}
-use Rattle.claims.proofs.EventWrites.{event-wrote}
+use Rattle.claims.proofs.Refusals.{legal_by}
+use Rattle.claims.proofs.Carried.{TypeBytes, records_carry, rows_carry, fits_as_bytes}
+use Rattle.claims.proofs.Owned.{full_list, list_types}
+use Rattle.claims.proofs.EventWrites.{event_wrote}
 use Rattle.claims.proofs.ReadAgain as read_again
 use Rattle.claims.proofs.ReadAgain.{left, own, read, Again}
 
@@ -63,16 +63,16 @@ module _ (rules : Rules) (running : ℕ) (bytes : List ℕ) (records : List (Eve
   abbrev there : ListAt
   there = read rules capacity running judged count out n
 
-  back-again : Again rules capacity running judged count out n
-  back-again = read_again.again rules capacity running judged count out n (records-lawful rules bytes records) e
+  back_again : Again rules capacity running judged count out n
+  back_again = read_again.again rules capacity running judged count out n (records_lawful rules bytes records) e
 
   -- the events of the records that were read are those that were written
   events : map (map_event (bytes_of raw)) there.events ≡ listed bytes records count
-  events = back-again.there ∙ records-themselves rules bytes count records back-again.events back-again.legal
+  events = back_again.there ∙ records_themselves rules bytes count records back_again.events back_again.legal
 
   as_many : length records ≡ capacity → length there.events ≡ count
   as_many full =
-      let few = (write-wrote capacity running judged count out n e).few in
+      let few = (write_wrote capacity running judged count out n e).few in
       let a : length there.events ≡ length (listed bytes records count) = sym (length-map there.events (map_event (bytes_of raw))) ∙ ap length events in
       let b : length (listed bytes records count) ≡ length (take count records) = length-map (take count records) (map_event (bytes_of bytes)) in
       a ∙ b ∙ length-take-le count records (omega (arith, few))
@@ -82,17 +82,17 @@ module _ (rules : Rules) (running : ℕ) (bytes : List ℕ) (records : List (Eve
   same full = rw (take-append_seam there.events (replicate (capacity - length there.events) filler), events, as_many full)
 
   read_back : length records ≡ capacity → ReadBack raw (held_as capacity there) n (left rules capacity running judged count out n).running bytes records count
-  read_back full = record { stop = back-again.stop; place = back-again.place; status = back-again.status; same = same full }
+  read_back full = record { stop = back_again.stop; place = back_again.place; status = back_again.status; same = same full }
 
 -- two events that were written at the front of their buffers
 module _ (running : ℕ) (rules rules' : Rules) (bytes bytes' : List ℕ) (e e' : Event Span) (out out' : List ℕ) (n n' : ℕ)
     (h : (write_event running (legal rules bytes e) out 0).written.answer ≡ gives n) (h' : (write_event running (legal rules' bytes' e') out' 0).written.answer ≡ gives n') (alike : strict_of rules' ≡ strict_of rules) where
   -- an accepted event, and its own bytes in front
-  wrote-front : (rules : Rules) (bytes : List ℕ) (e : Event Span) (out : List ℕ) (n : ℕ) → (write_event running (legal rules bytes e) out 0).written.answer ≡ gives n
+  wrote_front : (rules : Rules) (bytes : List ℕ) (e : Event Span) (out : List ℕ) (n : ℕ) → (write_event running (legal rules bytes e) out 0).written.answer ≡ gives n
       → (is_running running ≡ true) × (is_legal rules (map_event (bytes_of bytes) e) ≡ true) × (take n (write_event running (legal rules bytes e) out 0).written.buffer ≡ encode_event running (map_event (bytes_of bytes) e))
-  wrote-front rules bytes e out n h =
-      let a = event-wrote running (legal rules bytes e) (legal-by rules bytes e) out 0 n h in
-      let g = given-itself rules bytes e a.event a.legal in
+  wrote_front rules bytes e out n h =
+      let a = event_wrote running (legal rules bytes e) (legal_by rules bytes e) out 0 n h in
+      let g = given_itself rules bytes e a.event a.legal in
       let own = encode_event running a.event in
       let z : n ≡ length own = omega (arith, a.size) in
       (a.valid, subst (λ (x : Event (List ℕ)). is_legal rules x ≡ true) g.0 g.1, ap (take n) a.own ∙ ap (λ (k : ℕ). take k (over own out 0)) z ∙ front_own own out ∙ ap (encode_event running) g.0)
@@ -100,10 +100,10 @@ module _ (running : ℕ) (rules rules' : Rules) (bytes bytes' : List ℕ) (e e' 
   never_begins : (more : List ℕ) → take n (write_event running (legal rules bytes e) out 0).written.buffer ≡ take n' (write_event running (legal rules' bytes' e') out' 0).written.buffer ++ more
       → Same bytes e bytes' e'
   never_begins more q =
-      let a = wrote-front rules bytes e out n h in
-      let a' = wrote-front rules' bytes' e' out' n' h' in
-      smf.prefix_free (strict_of rules) running (map_event (bytes_of bytes) e) (map_event (bytes_of bytes') e') more a.0 (legal-strictly rules _ ∙ a.1)
-      (subst (λ (r : Rules). is_legal r (map_event (bytes_of bytes') e') ≡ true) alike (legal-strictly rules' _ ∙ a'.1))
+      let a = wrote_front rules bytes e out n h in
+      let a' = wrote_front rules' bytes' e' out' n' h' in
+      smf.prefix_free (strict_of rules) running (map_event (bytes_of bytes) e) (map_event (bytes_of bytes') e') more a.0 (legal_strictly rules _ ∙ a.1)
+      (subst (λ (r : Rules). is_legal r (map_event (bytes_of bytes') e') ≡ true) alike (legal_strictly rules' _ ∙ a'.1))
       (sym a.2 ∙ q ∙ ap (λ (l : List ℕ). l ++ more) a'.2)
 
 back : (rules rules' : Rules) (running : ℕ) (bytes : List ℕ) (records : List (Event Span)) (count : ℕ) (out : List ℕ) (n at : ℕ) (w : ListWritten) (raw : List ℕ) (held : ListHeld)
@@ -146,7 +146,7 @@ records_fit : (list : EventList) (running : Running) (rules : base.Rules) (bytes
     → FitsAsBytes (rules_of rules) capacity running.status (records_judged (rules_of rules) bytes (map record_of list.records)) list.count out
 records_fit list running rules bytes out r end told n h payload types =
     let records = map record_of list.records in
-    fits-as-bytes bytes payload (rules_of rules) capacity running.status (records_judged (rules_of rules) bytes records) list.count out (records-carry bytes payload (rules_of rules) records types)
+    fits_as_bytes bytes payload (rules_of rules) capacity running.status (records_judged (rules_of rules) bytes records) list.count out (records_carry bytes payload (rules_of rules) records types)
     ((writes (rules_of rules) capacity running.status bytes records list.count out).accepts.0 (n, sym (ap (λ (w : ListWritten). w.answer) told) ∙ h))
 
 rows_fit : (rows : List ℕ) (count : ℕ) (running : Running) (rules : base.Rules) (bytes out : List ℕ) (r : WroteList) (end : List ℕ)
@@ -155,7 +155,7 @@ rows_fit : (rows : List ℕ) (count : ℕ) (running : Running) (rules : base.Rul
     → FitsAsBytes (rules_of rules) capacity running.status (rows_judged (rules_of rules) bytes count rows) count out
 rows_fit rows count running rules bytes out r end told n h payload =
     let judged = rows_judged (rules_of rules) bytes count rows in
-    fits-as-bytes bytes payload (rules_of rules) capacity running.status judged count out (rows-carry bytes payload (rules_of rules) count rows)
+    fits_as_bytes bytes payload (rules_of rules) capacity running.status judged count out (rows_carry bytes payload (rules_of rules) count rows)
     ((list-write-says (rules_of rules) capacity running.status judged (rows_lawful (rules_of rules) bytes count rows) count out).accepts.0
     (n, sym (ap (λ (w : ListWritten). w.answer) told) ∙ h))
 
@@ -169,9 +169,9 @@ point_3 =
           subst (ListWriteSays (rules_of rules) capacity running.status (rows_judged (rules_of rules) bytes count rows) count out) (sym told)
           (list-write-says (rules_of rules) capacity running.status (rows_judged (rules_of rules) bytes count rows) (rows_lawful (rules_of rules) bytes count rows) count out));
       bytes = λ κs a r e told good n h payload.
-          records_fit a.0 a.1.0 a.1.1.0 a.1.1.1.0.now a.1.1.1.1.0.now r e.1.1.1.1.0.now told n h payload (list-types κs a good);
+          records_fit a.0 a.1.0 a.1.1.0 a.1.1.1.0.now a.1.1.1.1.0.now r e.1.1.1.1.0.now told n h payload (list_types κs a good);
       bytes_rows = calls.write_rows _ rows_fit;
       reads_back = λ κs a r e told good n h.
-          again a.0 a.1.0 a.1.1.0 a.1.1.1.0.now a.1.1.1.1.0.now (wrote_list r e.1.1.1.1.0.now) told n h (full-list κs a good);
+          again a.0 a.1.0 a.1.1.0 a.1.1.1.0.now a.1.1.1.1.0.now (wrote_list r e.1.1.1.1.0.now) told n h (full_list κs a good);
       prefix_free = calls.write_event_lem _ never;
     }

@@ -9,10 +9,10 @@ use Rattle.smf.specs.Place.{bytes_of}
 use Rattle.smf.specs.Answer.{Answer, gives, Rules, strict_of}
 use Rattle.smf.specs.Event.{Event, map_event}
 use Rattle.smf.specs.Lists.{ListAt, ended, list_at, wrote, ListWritten, write_list}
-use Rattle.smf.proofs.Lists.{list-ended}
+use Rattle.smf.proofs.Lists.{list_ended}
 use Rattle.smf.proofs.ListLegality.{Lawful}
 use Rattle.smf.proofs.ListPlaces.{list_reached}
-use Rattle.smf.proofs.ListWrites.{write-wrote}
+use Rattle.smf.proofs.ListWrites.{write_wrote}
 use Rattle.claims.proofs.Point3.{unpadded, list-write-says}
 
 module _ (rules : Rules) (most running : ℕ) (judged : List (Answer (Event (List ℕ)))) (count : ℕ) (out : List ℕ) (n : ℕ) where
@@ -39,8 +39,8 @@ module _ (rules : Rules) (most running : ℕ) (judged : List (Answer (Event (Lis
   unfolding list_at
   again lawful e =
       let a = (list-write-says rules most running judged lawful count out).accepted n e in
-      let size : length own ≡ n = length-take-le n left.buffer (omega (arith, a.long, (write-wrote most running judged count out n e).room)) in
-      let end = list-ended (strict_of rules) most running own a.reads.all in
+      let size : length own ≡ n = length-take-le n left.buffer (omega (arith, a.long, (write_wrote most running judged count out n e).room)) in
+      let end = list_ended (strict_of rules) most running own a.reads.all in
       record {
         events = a.events;
         legal = a.legal;

@@ -16,7 +16,7 @@ use Rattle.smf.proofs.Answer.{pick_both, pick_test}
 use Rattle.smf.proofs.Event.{EventReached, event_reached}
 use Rattle.claims.specs.Table.{OneOf, By, of_number, of_payload, of_event}
 use Rattle.claims.specs.Stands.{status_of, status_left, EventOrLeft}
-use Rattle.claims.proofs.Refusals.{all_among, one_of_more, one_of, of_name, read-number-by, read-payload-by, called-meta-by}
+use Rattle.claims.proofs.Refusals.{all_among, one_of_more, one_of, of_name, read_number_by, read_payload_by, called_meta_by}
 
 -- what lenient reading refuses, strict does too
 always : (b : Bool) (n : ℕ) → OneOf (of_event false) n → OneOf (of_event b) n
@@ -84,12 +84,12 @@ module _ (rules : Rules) (running : ℕ) where
     meta-left : (delta : Delta) (s : List ℕ) → Left (read_meta rules delta s)
     unfolding read_meta
     meta-left delta [] = (always rules.strict 10 refl, refl)
-    meta-left delta (t ∷ s) = payload-left delta (typed t) (λ p. refl) (read_payload rules s) (read-payload-by rules s)
+    meta-left delta (t ∷ s) = payload-left delta (typed t) (λ p. refl) (read_payload rules s) (read_payload_by rules s)
 
     status-left : (delta : Delta) (status : ℕ) (s : List ℕ) → status ≡ status_of running d.rest → Left (read_status rules running delta status s)
     unfolding read_status
     status-left delta status s e =
-        let load = payload-left delta (system status) (λ p. refl) (read_payload rules s) (read-payload-by rules s) in
+        let load = payload-left delta (system status) (λ p. refl) (read_payload rules s) (read_payload_by rules s) in
         pick_both Left (ltb status 0xF0) (channel-left status delta s e)
         (pick_both Left (eqb status 0xFF) (meta-left delta s)
         (pick_both Left (eqb status 0xF0) load
@@ -104,15 +104,15 @@ module _ (rules : Rules) (running : ℕ) where
         (λ t. pick_both Left (eqb running 0) (always rules.strict 5 refl, refl) (channel-left running delta (b ∷ s) (rw (e, t))))
         (λ t. status-left delta b s (rw (e, t)))
 
-  delta-left : (s : List ℕ) (d : Answer Numeral) → By (of_number rules.strict) d → RawLeft d (after_delta rules running s d)
+  delta_left : (s : List ℕ) (d : Answer Numeral) → By (of_number rules.strict) d → RawLeft d (after_delta rules running s d)
   unfolding after_delta
-  delta-left s (gives d) b = body-left d (delta_read s d) d.rest refl
-  delta-left s (refuses n) b = (one_of_more (of_event rules.strict) (of_number rules.strict) n (number_in_event rules.strict) b, refl)
+  delta_left s (gives d) b = body-left d (delta_read s d) d.rest refl
+  delta_left s (refuses n) b = (one_of_more (of_event rules.strict) (of_number rules.strict) n (number_in_event rules.strict) b, refl)
 
   -- 1 leaves the running status, whatever the delta is
-  one-leaves : (d : Answer Numeral) → running ≡ status_left running d 1
-  one-leaves (gives d) = refl
-  one-leaves (refuses n) = refl
+  one_leaves : (d : Answer Numeral) → running ≡ status_left running d 1
+  one_leaves (gives d) = refl
+  one_leaves (refuses n) = refl
 
   module _ (s : List ℕ) where
     abbrev delta : Answer Numeral
@@ -121,8 +121,8 @@ module _ (rules : Rules) (running : ℕ) where
     raw-left : RawLeft delta (read_raw rules running s)
     unfolding read_raw
     raw-left =
-        pick_test (RawLeft delta) (is_running running) (λ _. delta-left s delta (read-number-by rules s))
-        (λ _. (always rules.strict 1 refl, one-leaves delta))
+        pick_test (RawLeft delta) (is_running running) (λ _. delta_left s delta (read_number_by rules s))
+        (λ _. (always rules.strict 1 refl, one_leaves delta))
 
     abbrev EventLeft : Reading (Taken (Event (List ℕ))) → Type 0
     EventLeft (reads t) = Unit {0}
@@ -147,7 +147,7 @@ module _ (rules : Rules) (running : ℕ) where
     called-left t d e (one status a) after = tt
     called-left t d e (two status a b) after = tt
     called-left t d e (system status p) after = tt
-    called-left t d e (typed ty p) after = meta-named-left t d e after (called_meta rules ty p) (called-meta-by rules ty p)
+    called-left t d e (typed ty p) after = meta-named-left t d e after (called_meta rules ty p) (called_meta_by rules ty p)
 
     named-left : (r : Reading (Taken RawEvent)) → RawLeft delta r → EventLeft (name_raw rules r)
     unfolding name_raw

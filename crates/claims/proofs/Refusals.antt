@@ -76,99 +76,99 @@ module _ (rules : Rules) where
   abbrev strict : Bool
   strict = rules.strict
 
-  number-from-by : (k bits : ℕ) (s : List ℕ) → By (of_number strict) (number_from rules k bits s)
+  number_from_by : (k bits : ℕ) (s : List ℕ) → By (of_number strict) (number_from rules k bits s)
   unfolding number_from
-  number-from-by zero bits s = pick_test (By (of_number strict)) strict (λ t. rw t) (λ t. tt)
-  number-from-by (suc k) bits [] = pick_test (By (of_number strict)) strict (λ t. rw t) (λ t. tt)
-  number-from-by (suc k) bits (b ∷ s) = pick_both (By (of_number strict)) (ltb b 128) tt (number-from-by k _ s)
+  number_from_by zero bits s = pick_test (By (of_number strict)) strict (λ t. rw t) (λ t. tt)
+  number_from_by (suc k) bits [] = pick_test (By (of_number strict)) strict (λ t. rw t) (λ t. tt)
+  number_from_by (suc k) bits (b ∷ s) = pick_both (By (of_number strict)) (ltb b 128) tt (number_from_by k _ s)
 
-  pub read-number-by : (s : List ℕ) → By (of_number strict) (read_number rules s)
+  pub read_number_by : (s : List ℕ) → By (of_number strict) (read_number rules s)
   unfolding read_number
-  read-number-by s = number-from-by 4 0 s
+  read_number_by s = number_from_by 4 0 s
 
-  pub number-at-by : (s : List ℕ) (at : ℕ) → By (of_number strict) (number_at rules s at)
+  pub number_at_by : (s : List ℕ) (at : ℕ) → By (of_number strict) (number_at rules s at)
   unfolding number_at
-  number-at-by s at = then_by (of_number strict) (read_number rules (drop at s)) _ (read-number-by (drop at s)) (λ n. tt)
+  number_at_by s at = then_by (of_number strict) (read_number rules (drop at s)) _ (read_number_by (drop at s)) (λ n. tt)
 
-  number-in-payload : (b : Bool) → all_among (of_payload b) (of_number b) ≡ true
-  number-in-payload true = refl
-  number-in-payload false = refl
+  number_in_payload : (b : Bool) → all_among (of_payload b) (of_number b) ≡ true
+  number_in_payload true = refl
+  number_in_payload false = refl
 
-  payload-after-by : (s : List ℕ) (n : Numeral) → By (of_payload strict) (payload_after rules s n)
+  payload_after_by : (s : List ℕ) (n : Numeral) → By (of_payload strict) (payload_after rules s n)
   unfolding payload_after
-  payload-after-by s n =
+  payload_after_by s n =
       pick_both (By (of_payload strict)) (leb n.value (length n.rest)) tt
       (pick_test (By (of_payload strict)) strict (λ t. rw t) (λ t. tt))
 
-  pub read-payload-by : (s : List ℕ) → By (of_payload strict) (read_payload rules s)
+  pub read_payload_by : (s : List ℕ) → By (of_payload strict) (read_payload rules s)
   unfolding read_payload
-  read-payload-by s =
+  read_payload_by s =
       then_by (of_payload strict) (read_number rules s) (payload_after rules s)
-      (by_more (of_payload strict) (of_number strict) (read_number rules s) (number-in-payload strict) (read-number-by s)) (payload-after-by s)
+      (by_more (of_payload strict) (of_number strict) (read_number rules s) (number_in_payload strict) (read_number_by s)) (payload_after_by s)
 
-  pub payload-at-by : (s : List ℕ) (at : ℕ) → By (of_payload strict) (payload_at rules s at)
+  pub payload_at_by : (s : List ℕ) (at : ℕ) → By (of_payload strict) (payload_at rules s at)
   unfolding payload_at
-  payload-at-by s at = then_by (of_payload strict) (read_payload rules (drop at s)) _ (read-payload-by (drop at s)) (λ p. tt)
+  payload_at_by s at = then_by (of_payload strict) (read_payload rules (drop at s)) _ (read_payload_by (drop at s)) (λ p. tt)
 
   -- Meta messages
 
-  named-13 : (b : Bool) → OneOf (of_name b) 13
-  named-13 true = refl
-  named-13 false = refl
+  named_13 : (b : Bool) → OneOf (of_name b) 13
+  named_13 true = refl
+  named_13 false = refl
 
-  named-14 : (b : Bool) → OneOf (of_name b) 14
-  named-14 true = refl
-  named-14 false = refl
+  named_14 : (b : Bool) → OneOf (of_name b) 14
+  named_14 true = refl
+  named_14 false = refl
 
-  narrow-by : (limit byte : ℕ) → By (of_name strict) (narrow rules limit byte)
+  narrow_by : (limit byte : ℕ) → By (of_name strict) (narrow rules limit byte)
   unfolding narrow
-  narrow-by limit byte =
+  narrow_by limit byte =
       pick_both (By (of_name strict)) (ltb byte limit) tt (pick_test (By (of_name strict)) strict (λ t. rw t) (λ t. tt))
 
-  named-time-by : (a b c d e : ℕ) → By (of_name strict) (time_of rules a b c d e)
+  named_time_by : (a b c d e : ℕ) → By (of_name strict) (time_of rules a b c d e)
   unfolding time_of to_time
-  named-time-by a b c d e = pick_both (By (of_name strict)) (is_time rules _) tt (named-13 strict)
+  named_time_by a b c d e = pick_both (By (of_name strict)) (is_time rules _) tt (named_13 strict)
 
-  pub called-meta-by : (t : ℕ) (p : List ℕ) → By (of_name strict) (called_meta rules t p)
+  pub called_meta_by : (t : ℕ) (p : List ℕ) → By (of_name strict) (called_meta rules t p)
   unfolding called_meta
-  called-meta-by t p =
+  called_meta_by t p =
       let P = By (of_name strict) in
       pick_both P (eqb t 0x00) tt
       (pick_both P (is_text t) tt
-      (pick_both P (eqb t 0x20) (pick_both P (leb 1 (length p)) (then_by _ (narrow rules 16 _) _ (narrow-by 16 _) (λ c. tt)) tt)
-      (pick_both P (eqb t 0x21) (pick_both P (leb 1 (length p)) (then_by _ (narrow rules 128 _) _ (narrow-by 128 _) (λ c. tt)) tt)
+      (pick_both P (eqb t 0x20) (pick_both P (leb 1 (length p)) (then_by _ (narrow rules 16 _) _ (narrow_by 16 _) (λ c. tt)) tt)
+      (pick_both P (eqb t 0x21) (pick_both P (leb 1 (length p)) (then_by _ (narrow rules 128 _) _ (narrow_by 128 _) (λ c. tt)) tt)
       (pick_both P (eqb t 0x2F) tt
       (pick_both P (eqb t 0x51) (pick_both P (leb 3 (length p)) tt tt)
-      (pick_both P (eqb t 0x54) (pick_both P (leb 5 (length p)) (then_by _ (time_of rules _ _ _ _ _) _ (named-time-by _ _ _ _ _) (λ c. tt)) tt)
+      (pick_both P (eqb t 0x54) (pick_both P (leb 5 (length p)) (then_by _ (time_of rules _ _ _ _ _) _ (named_time_by _ _ _ _ _) (λ c. tt)) tt)
       (pick_both P (eqb t 0x58) (pick_both P (leb 4 (length p)) tt tt)
-      (pick_both P (eqb t 0x59) (pick_both P (leb 2 (length p)) tt (named-14 strict))
+      (pick_both P (eqb t 0x59) (pick_both P (leb 2 (length p)) tt (named_14 strict))
       (pick_both P (eqb t 0x7F) tt tt)))))))))
 
-  meta-10 : (b : Bool) → OneOf (of_meta b) 10
-  meta-10 true = refl
-  meta-10 false = refl
+  meta_10 : (b : Bool) → OneOf (of_meta b) 10
+  meta_10 true = refl
+  meta_10 false = refl
 
-  payload-in-meta : (b : Bool) → all_among (of_meta b) (of_payload b) ≡ true
-  payload-in-meta true = refl
-  payload-in-meta false = refl
+  payload_in_meta : (b : Bool) → all_among (of_meta b) (of_payload b) ≡ true
+  payload_in_meta true = refl
+  payload_in_meta false = refl
 
-  name-in-meta : (b : Bool) → all_among (of_meta b) (of_name b) ≡ true
-  name-in-meta true = refl
-  name-in-meta false = refl
+  name_in_meta : (b : Bool) → all_among (of_meta b) (of_name b) ≡ true
+  name_in_meta true = refl
+  name_in_meta false = refl
 
-  read-meta-by : (s : List ℕ) → By (of_meta strict) (read_meta_message rules s)
+  read_meta_by : (s : List ℕ) → By (of_meta strict) (read_meta_message rules s)
   unfolding read_meta_message
-  read-meta-by [] = meta-10 strict
-  read-meta-by (t ∷ s) =
+  read_meta_by [] = meta_10 strict
+  read_meta_by (t ∷ s) =
       then_by (of_meta strict) (read_payload rules s) _
-      (by_more (of_meta strict) (of_payload strict) (read_payload rules s) (payload-in-meta strict) (read-payload-by s))
+      (by_more (of_meta strict) (of_payload strict) (read_payload rules s) (payload_in_meta strict) (read_payload_by s))
       (λ p. then_by (of_meta strict) (called_meta rules t p.bytes) _
-      (by_more (of_meta strict) (of_name strict) (called_meta rules t p.bytes) (name-in-meta strict) (called-meta-by t p.bytes))
+      (by_more (of_meta strict) (of_name strict) (called_meta rules t p.bytes) (name_in_meta strict) (called_meta_by t p.bytes))
       (λ m. tt))
 
-  pub meta-at-by : (s : List ℕ) (at : ℕ) → By (of_meta strict) (meta_at rules s at)
+  pub meta_at_by : (s : List ℕ) (at : ℕ) → By (of_meta strict) (meta_at rules s at)
   unfolding meta_at
-  meta-at-by s at = then_by (of_meta strict) (read_meta_message rules (drop at s)) _ (read-meta-by (drop at s)) (λ m. tt)
+  meta_at_by s at = then_by (of_meta strict) (read_meta_message rules (drop at s)) _ (read_meta_by (drop at s)) (λ m. tt)
 
 -- Widths, header fields, SMPTE times and bends
 
@@ -253,9 +253,9 @@ write_keeps ns (gives bs) buffer at p h =
     pick_both (λ (w : Written). Keeps ns w.answer buffer w.buffer) (leb (at + length bs) (length buffer)) tt (h, refl)
 
 module _ (rules : Rules) (bytes : List ℕ) where
-  pub legal-by : (e : Event Span) → By of_legality (legal rules bytes e)
+  pub legal_by : (e : Event Span) → By of_legality (legal rules bytes e)
   unfolding legal
-  legal-by e =
+  legal_by e =
       pick_both (By of_legality) (ltb e.delta (2 ^ 28) && kind_fits rules e.kind)
       (pick_both (By of_legality) (inside bytes (kind_load no_span e.kind))
       (pick_both (By of_legality) (ltb (span_length (kind_load no_span e.kind)) (2 ^ 28))
@@ -268,7 +268,7 @@ module _ (rules : Rules) (bytes : List ℕ) where
   pub row_by : (r : List ℕ) → By of_legality (row_judged rules bytes r)
   unfolding row_judged event_of_row
   row_by r =
-      then_by of_legality (pick (is_row r) (gives (called_row r)) (refuses 18)) _ (pick_both (By of_legality) (is_row r) tt refl) legal-by
+      then_by of_legality (pick (is_row r) (gives (called_row r)) (refuses 18)) _ (pick_both (By of_legality) (is_row r) tt refl) legal_by
 
 -- an event as it was judged, measured
 pub event_length_by : (running : ℕ) (j : Answer (Event (List ℕ))) → By of_legality j → By of_length (size_event running j)

@@ -13,7 +13,7 @@ use Rattle.smf.specs.Payload.{payload_after, read_payload, encode_payload}
 use Rattle.smf.specs.Wire.{taken, read_status, read_body, after_delta, read_raw, encode_raw, encode_raw_event}
 use Rattle.smf.specs.Kind.{sys_ex, called, raw_of}
 use Rattle.smf.specs.Event.{event, map_kind, map_event, named, name_raw, read_event, placed, event_at, EventAt, reads_at, legal, encode_event, write_event, Same}
-use Rattle.smf.proofs.Event.{event_read, Reached, EventReached, event_reached, legal-exactly}
+use Rattle.smf.proofs.Event.{event_read, Reached, EventReached, event_reached, legal_exactly}
 use Rattle.base.specs.Rules.{rules_of}
 use Rattle.base.specs.declared.Rules as base
 use Rattle.base.specs.declared.Running.{Running}
@@ -24,8 +24,8 @@ use Rattle.write.specs.Wrote.{wrote_event}
 use Rattle.write.specs.declared.answer.WroteEvent.{WroteEvent}
 use Rattle.claims.specs.Shortest.{WrittenFor, Shortest, NotLenient}
 use Rattle.claims.proofs.Calls as calls
-use Rattle.claims.proofs.EventWrites.{event-wrote}
-use Rattle.claims.proofs.Refusals.{legal-by}
+use Rattle.claims.proofs.EventWrites.{event_wrote}
+use Rattle.claims.proofs.Refusals.{legal_by}
 
 -- what is written of an event that is the same has its own length
 written : (running : ℕ) (raw : List ℕ) (a : EventAt) (Reaches : ℕ → ℕ → Type 0) → ((from : ℕ) → Reaches from (from + length (encode_event running (map_event (bytes_of raw) a.event))))
@@ -36,8 +36,8 @@ written running raw a Reaches law = calls.write_event_lem _ said where
       → Same bytes (event_of event) raw a.event → running'.status ≡ running
       → (n : ℕ) → (wrote_event r end).written.answer ≡ gives n → Reaches at n
   said event running' rules bytes out at r end told same from n e =
-      let w = event-wrote running'.status (legal (rules_of rules) bytes (event_of event)) (legal-by (rules_of rules) bytes (event_of event)) out at n (rw told at e) in
-      rw (w.size, ((legal-exactly (rules_of rules) bytes (event_of event) w.event).0 w.legal).2, same, from) (law at)
+      let w = event_wrote running'.status (legal (rules_of rules) bytes (event_of event)) (legal_by (rules_of rules) bytes (event_of event)) out at n (rw told at e) in
+      rw (w.size, ((legal_exactly (rules_of rules) bytes (event_of event) w.event).0 w.legal).2, same, from) (law at)
 
 -- an event that was read strictly takes no fewer bytes than its own
 used : (rules : Rules) (running : ℕ) (raw : List ℕ) (at : ℕ) (a : EventAt) → rules.strict ≡ true → event_at rules running raw at ≡ reads_at a

@@ -41,9 +41,9 @@ at_mem c k (p ∷ ps) e =
     (λ t. Memᴰ.tail (at_mem c k ps (rw t at e)))
 
 module _ (most : ℕ) (t : Table) (place : ℕ) where
-  pub silenced-by : Silenced t (silence_from most t place) (table_after t (silence_from most t place))
+  pub silenced_by : Silenced t (silence_from most t place) (table_after t (silence_from most t place))
   unfolding silence_from
-  silenced-by =
+  silenced_by =
       let ps = silenced most t place in
       record {
         named = λ c k hc hk m. entry_silenced most t place c k hc hk ∙ rw (mem_at c k ps m);

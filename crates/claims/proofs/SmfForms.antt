@@ -23,10 +23,10 @@ use Rattle.smf.specs.Kind as kind
 use Rattle.smf.specs.Kind.{Message, Meta, Kind, raw_message, raw_meta, raw_of}
 use Rattle.smf.specs.Event.{Event, message_fits, meta_fits, kind_fits, carries, meta_carries, kind_load, kind_misnamed, is_named, legal, encode_event, EventWritten, event_written, write_judged, write_event, event, map_kind, span_before, event_at, reads_at}
 use Rattle.smf.proofs.Legal.{is_legal}
-use Rattle.smf.proofs.Event.{is_legal_lem, event_read, legal-exactly}
+use Rattle.smf.proofs.Event.{is_legal_lem, event_read, legal_exactly}
 use Rattle.smf.proofs.Answer.{by-test, by_answer, by-lt, both, given, pick_test}
 use Rattle.smf.proofs.Number.{encode_is_number, encode_value, shortest}
-use Rattle.smf.proofs.Write.{number_bytes_wide, number_bytes_lem, part-outside, part-long, part_bytes}
+use Rattle.smf.proofs.Write.{number_bytes_wide, number_bytes_lem, part_outside, part_long, part_bytes}
 use Rattle.smf.proofs.Payload.{encode_payload_length}
 use Rattle.smf.proofs.Kind.{LegalKind, is_text_lem}
 use Rattle.smf.proofs.Smpte.{by-rate, rate_small, in_range, time_length}
@@ -93,9 +93,9 @@ module _ (t n : ℕ) where
       (λ e. subst (λ (m : ℕ). Unnamed m n) (sym (eqb-true t u e)) (named (leb-false least n (rw e at o))))
       others
 
-  pub unnamed-form : (rules : Rules) → is_named rules t n ≡ false → Unnamed t n
+  pub unnamed_form : (rules : Rules) → is_named rules t n ≡ false → Unnamed t n
   unfolding is_named
-  unnamed-form rules o =
+  unnamed_form rules o =
       let signature = neither _ (eqb t 0x58 && leb 4 n) o in
       let smpte = neither _ (eqb t 0x54 && leb 5 n) signature.0 in
       let tempo = neither _ (eqb t 0x51 && leb 3 n) smpte.0 in
@@ -117,78 +117,78 @@ module _ (rules : Rules) (running : ℕ) where
   InForm k raw = BodyForm running k (encode_raw running raw) (running_after raw)
 
   -- the status byte is left out exactly when it is the running status
-  with-status : {c status : ℕ} {m : Message} {s : List ℕ} → c < 16 → ChannelForm c m status s → BodyForm running (kind.midi c m) (pick (eqb running status) s (status ∷ s)) status
-  with-status {c} {status} {m} {s} low f =
+  with_status : {c status : ℕ} {m : Message} {s : List ℕ} → c < 16 → ChannelForm c m status s → BodyForm running (kind.midi c m) (pick (eqb running status) s (status ∷ s)) status
+  with_status {c} {status} {m} {s} low f =
       pick_test (λ (l : List ℕ). BodyForm running (kind.midi c m) l status) (eqb running status)
       (λ e. let same = eqb-true running status e in
       subst (λ (n : ℕ). BodyForm running (kind.midi c m) s n) same (form.under low (subst (λ (n : ℕ). ChannelForm c m n s) (sym same) f)))
       (λ _. form.channel low f)
 
-  message-form : (c : ℕ) (m : Message) → c < 16 → message_fits rules m ≡ true → InForm (kind.midi c m) (raw_message c m)
+  message_form : (c : ℕ) (m : Message) → c < 16 → message_fits rules m ≡ true → InForm (kind.midi c m) (raw_message c m)
   unfolding message_fits raw_message encode_raw
-  message-form c (kind.note_off key vel) low f = let g = below key vel f in with-status low (form.note_off g.0 g.1)
-  message-form c (kind.note_on key vel) low f = let g = below key vel f in with-status low (form.note_on g.0 g.1)
-  message-form c (kind.aftertouch key vel) low f = let g = below key vel f in with-status low (form.aftertouch g.0 g.1)
-  message-form c (kind.controller number value) low f = let g = below number value f in with-status low (form.controller g.0 g.1)
-  message-form c (kind.program_change program) low f = with-status low (form.program_change (ltb-true program 128 f))
-  message-form c (kind.channel_aftertouch vel) low f = with-status low (form.channel_aftertouch (ltb-true vel 128 f))
-  message-form c (kind.pitch_bend raw) low f =
+  message_form c (kind.note_off key vel) low f = let g = below key vel f in with_status low (form.note_off g.0 g.1)
+  message_form c (kind.note_on key vel) low f = let g = below key vel f in with_status low (form.note_on g.0 g.1)
+  message_form c (kind.aftertouch key vel) low f = let g = below key vel f in with_status low (form.aftertouch g.0 g.1)
+  message_form c (kind.controller number value) low f = let g = below number value f in with_status low (form.controller g.0 g.1)
+  message_form c (kind.program_change program) low f = with_status low (form.program_change (ltb-true program 128 f))
+  message_form c (kind.channel_aftertouch vel) low f = with_status low (form.channel_aftertouch (ltb-true vel 128 f))
+  message_form c (kind.pitch_bend raw) low f =
       let g = ltb-true raw 16384 f in
       let e : raw / 128 * 128 + raw % 128 ≡ raw = omega arith in
-      with-status low (subst (λ (n : ℕ). ChannelForm c (kind.pitch_bend n) (0xE0 + c) (raw % 128 ∷ raw / 128 ∷ [])) e (form.pitch_bend (omega arith) (omega arith)))
+      with_status low (subst (λ (n : ℕ). ChannelForm c (kind.pitch_bend n) (0xE0 + c) (raw % 128 ∷ raw / 128 ∷ [])) e (form.pitch_bend (omega arith) (omega arith)))
 
-  with-type : {m : Meta (List ℕ)} {t : ℕ} {p : List ℕ} → length p < 2 ^ 28 → MetaForm m t p → InForm (kind.meta m) (typed t p)
+  with_type : {m : Meta (List ℕ)} {t : ℕ} {p : List ℕ} → length p < 2 ^ 28 → MetaForm m t p → InForm (kind.meta m) (typed t p)
   unfolding encode_raw
-  with-type {p = p} h f = form.meta f (payload_form p h)
+  with_type {p = p} h f = form.meta f (payload_form p h)
 
-  time-form : (t : Time) → is_time rules t ≡ true → MetaForm (kind.smpte_offset t) 0x54 (time_bytes t)
+  time_form : (t : Time) → is_time rules t ≡ true → MetaForm (kind.smpte_offset t) 0x54 (time_bytes t)
   unfolding time_bytes
-  time-form t is =
+  time_form t is =
       let r = in_range rules t is in
       form.smpte_offset (coded t.rate r.rated) r.hour-below r.minute-below r.second_below r.frame_below r.subframe-below
 
-  meta-form : (m : Meta (List ℕ)) → meta_fits rules m ≡ true → kind_misnamed rules length (kind.meta m) ≡ false → length (kind_load [] (kind.meta m)) < 2 ^ 28 → InForm (kind.meta m) (raw_meta m)
+  meta_form : (m : Meta (List ℕ)) → meta_fits rules m ≡ true → kind_misnamed rules length (kind.meta m) ≡ false → length (kind_load [] (kind.meta m)) < 2 ^ 28 → InForm (kind.meta m) (raw_meta m)
   unfolding meta_fits carries meta_carries raw_meta
-  meta-form (kind.track_number n) f o h =
+  meta_form (kind.track_number n) f o h =
       let g = ltb-true n 65536 f in
       let e : n / 256 * 256 + n % 256 ≡ n = omega arith in
-      with-type (omega arith) (subst (λ (k : ℕ). MetaForm (kind.track_number k) 0x00 (n / 256 ∷ n % 256 ∷ [])) e (form.sequence_number (omega arith) (omega arith)))
-  meta-form kind.no_track_number f o h = with-type h form.no_number
-  meta-form (kind.text t p) f o h = let g = is_text_lem t f in with-type h (form.text g.0 g.1)
-  meta-form (kind.midi_channel c) f o h = with-type (omega arith) (form.channel_prefix (ltb-true c 16 f))
-  meta-form (kind.midi_port c) f o h = with-type (omega arith) (form.port (ltb-true c 128 f))
-  meta-form kind.end_of_track f o h = with-type h form.end_of_track
-  meta-form (kind.tempo v) f o h =
+      with_type (omega arith) (subst (λ (k : ℕ). MetaForm (kind.track_number k) 0x00 (n / 256 ∷ n % 256 ∷ [])) e (form.sequence_number (omega arith) (omega arith)))
+  meta_form kind.no_track_number f o h = with_type h form.no_number
+  meta_form (kind.text t p) f o h = let g = is_text_lem t f in with_type h (form.text g.0 g.1)
+  meta_form (kind.midi_channel c) f o h = with_type (omega arith) (form.channel_prefix (ltb-true c 16 f))
+  meta_form (kind.midi_port c) f o h = with_type (omega arith) (form.port (ltb-true c 128 f))
+  meta_form kind.end_of_track f o h = with_type h form.end_of_track
+  meta_form (kind.tempo v) f o h =
       let g = ltb-true v 16777216 f in
       let e : v / 256 / 256 * 65536 + v / 256 % 256 * 256 + v % 256 ≡ v = omega arith in
-      with-type (omega arith)
+      with_type (omega arith)
       (subst (λ (k : ℕ). MetaForm (kind.tempo k) 0x51 (v / 256 / 256 ∷ v / 256 % 256 ∷ v % 256 ∷ [])) e (form.tempo (omega arith) (omega arith) (omega arith)))
-  meta-form (kind.smpte_offset t) f o h = with-type (omega (arith, time_length t)) (time-form t f)
-  meta-form (kind.time_signature a b c d) f o h =
+  meta_form (kind.smpte_offset t) f o h = with_type (omega (arith, time_length t)) (time_form t f)
+  meta_form (kind.time_signature a b c d) f o h =
       let f1 = both _ _ f in
       let f2 = both _ _ f1.0 in
       let f3 = both _ _ f2.0 in
-      with-type (omega arith) (form.time_signature (ltb-true a 256 f3.0) (ltb-true b 256 f3.1) (ltb-true c 256 f2.1) (ltb-true d 256 f1.1))
-  meta-form (kind.key_signature z minor) f o h = with-type (omega arith) (form.key_signature (key_form z (ltb-true (mag z) 128 f)) (mode_form minor))
-  meta-form (kind.sequencer_specific p) f o h = with-type h form.sequencer_specific
-  meta-form (kind.unknown t p) f o h = with-type h (form.unknown (unnamed-form t (length p) rules o))
+      with_type (omega arith) (form.time_signature (ltb-true a 256 f3.0) (ltb-true b 256 f3.1) (ltb-true c 256 f2.1) (ltb-true d 256 f1.1))
+  meta_form (kind.key_signature z minor) f o h = with_type (omega arith) (form.key_signature (key_form z (ltb-true (mag z) 128 f)) (mode_form minor))
+  meta_form (kind.sequencer_specific p) f o h = with_type h form.sequencer_specific
+  meta_form (kind.unknown t p) f o h = with_type h (form.unknown (unnamed_form t (length p) rules o))
 
-  kind-form : (k : Kind (List ℕ)) → LegalKind rules k → InForm k (raw_of k)
+  kind_form : (k : Kind (List ℕ)) → LegalKind rules k → InForm k (raw_of k)
   unfolding kind_fits carries raw_of encode_raw
-  kind-form (kind.midi c m) l = let f = both _ _ l.fits in message-form c m (ltb-true c 16 f.0) f.1
-  kind-form (kind.sys_ex p) l = form.sys_ex (payload_form p l.small)
-  kind-form (kind.escape p) l = form.escape (payload_form p l.small)
-  kind-form (kind.meta m) l = meta-form m l.fits l.own l.small
+  kind_form (kind.midi c m) l = let f = both _ _ l.fits in message_form c m (ltb-true c 16 f.0) f.1
+  kind_form (kind.sys_ex p) l = form.sys_ex (payload_form p l.small)
+  kind_form (kind.escape p) l = form.escape (payload_form p l.small)
+  kind_form (kind.meta m) l = meta_form m l.fits l.own l.small
 
-  event-form : (e : Event (List ℕ)) → is_legal rules e ≡ true → EventForm running e (running_after (raw_of e.kind)) (encode_event running e)
+  event_form : (e : Event (List ℕ)) → is_legal rules e ≡ true → EventForm running e (running_after (raw_of e.kind)) (encode_event running e)
   unfolding encode_event encode_raw_event
-  event-form e is =
+  event_form e is =
       let l = is_legal_lem rules e is in
       record {
         delta = encode_number e.delta;
         body = encode_raw running (raw_of e.kind);
         ticks = number_form e.delta l.delta;
-        stands = kind-form e.kind l.kind;
+        stands = kind_form e.kind l.kind;
         whole = refl;
       }
 
@@ -257,11 +257,11 @@ payload_own : (bytes : List ℕ) (start n : ℕ) (bs : List ℕ) → payload_byt
 payload_own bytes start n bs e =
     let p = take n (drop start bytes) in
     by-lt (length bytes) (start + n)
-    (λ out. absurd (no_answer (sym (part-outside bytes start n out) ∙ e)))
+    (λ out. absurd (no_answer (sym (part_outside bytes start n out) ∙ e)))
     (λ inside. by-lt n (2 ^ 28)
     (λ h. subst (Fewest (PayloadForm p)) (same_answer (sym (part_bytes bytes start n inside h) ∙ e))
     (record { form = payload_form p (omega (arith, length-take-le n (drop start bytes) (omega (arith, length-drop start bytes)))); fewest = payload_fewest p }))
-    (λ h. absurd (no_answer (sym (part-long bytes start n inside h) ∙ e))))
+    (λ h. absurd (no_answer (sym (part_long bytes start n inside h) ∙ e))))
 
 payload_at_lem : (rules : Rules) (raw : List ℕ) (at : ℕ) (p s rest : List ℕ) (f : PayloadForm p s) → drop at raw ≡ s ++ rest
     → payload_at rules raw at ≡ gives (record { span = record { start = at + length s - length p; length = length p }; padding = payload_padding f })
@@ -320,19 +320,19 @@ module _ (rules : Rules) (running : ℕ) (bytes : List ℕ) (event : Event Span)
   Owns w (gives n) = Own w n
   Owns w (refuses m) = Unit {0}
 
-  legal-owns : is_running running ≡ true → (l : Event (List ℕ)) → judged ≡ gives l
+  legal_owns : is_running running ≡ true → (l : Event (List ℕ)) → judged ≡ gives l
       → (w : Written) → w ≡ put (encode_event running l) out at → Owns (event_written running (running_after (raw_of l.kind)) w) w.answer
   unfolding put
-  legal-owns is l h w told =
+  legal_owns is l h w told =
       let own = encode_event running l in
-      let x = (legal-exactly rules bytes event l).0 h in
+      let x = (legal_exactly rules bytes event l).0 h in
       rw told
       (pick_test (λ (x : Written). Owns (event_written running (running_after (raw_of l.kind)) x) x.answer) (leb (at + length own) (length out))
       (λ t. (
         l,
         h,
         rw (over_between own out at (leb-true _ _ t))
-            (record { form = event-form rules running l (rw x.2 x.1); fewest = λ others f. event_fewest running l _ others is f }),
+            (record { form = event_form rules running l (rw x.2 x.1); fewest = λ others f. event_fewest running l _ others is f }),
       ))
       (λ _. tt))
 
@@ -340,7 +340,7 @@ module _ (rules : Rules) (running : ℕ) (bytes : List ℕ) (event : Event Span)
   unfolding write_event write_judged
   owns =
       by-test (is_running running)
-      (λ is. by_answer judged (λ l h. rw (is, h) (legal-owns is l h (put (encode_event running l) out at) refl)) (λ m h. rw (is, h) tt))
+      (λ is. by_answer judged (λ l h. rw (is, h) (legal_owns is l h (put (encode_event running l) out at) refl)) (λ m h. rw (is, h) tt))
       (λ not. rw not tt)
 
 -- What the promises permit
@@ -380,7 +380,7 @@ payload_read_said raw at rules r told p s rest f q = told ∙ payload_at_lem (ru
 event_read_said : (raw : List ℕ) (at : ℕ) (running : Running) (rules : base.Rules) (r : ReadEvent) → event_read r ≡ event_at (rules_of rules) running.status raw at
     → (e : Event (List ℕ)) (after : ℕ) (s rest : List ℕ) → is_running running.status ≡ true → (f : EventForm running.status e after s) → drop at raw ≡ s ++ rest
     → event_read r ≡ reads_at (record { event = event e.delta (map_kind (span_before (at + length s)) e.kind); used = length s; running = after; padding = event_padding f })
-event_read_said raw at running rules r told e after s rest is f q = told ∙ reads.event-at (rules_of rules) running.status e after raw at s rest is f q
+event_read_said raw at running rules r told e after s rest is f q = told ∙ reads.event_at_lem (rules_of rules) running.status e after raw at s rest is f q
 
 pub smf_forms : SmfForms
 smf_forms =

@@ -43,14 +43,14 @@ module _ (rules : Rules) where
   number_read v n rest f = smf_read rules n rest f.is ∙ ap (λ (k : ℕ). gives (numeral k rest)) f.stands
 
   -- the bytes beyond the fewest are the form's own
-  number-padded : (v : ℕ) (n rest : List ℕ) → padding_of (n ++ rest) (numeral v rest) ≡ beyond_fewest (length n) v
-  number-padded v n rest = omega (arith, length-append n rest)
+  number_padded : (v : ℕ) (n rest : List ℕ) → padding_of (n ++ rest) (numeral v rest) ≡ beyond_fewest (length n) v
+  number_padded v n rest = omega (arith, length-append n rest)
 
   pub payload_read : (p s rest : List ℕ) (f : PayloadForm p s) → read_payload rules (s ++ rest) ≡ gives (payload p rest (payload_padding f))
   unfolding read_payload payload_after
   payload_read p s rest f =
       let fits : leb (length p) (length (p ++ rest)) ≡ true = le-leb (length p) (length (p ++ rest)) (omega (arith, length-append p rest)) in
-      rw (f.whole, append_assoc, number_read (length p) f.number (p ++ rest) f.counts, number-padded (length p) f.number (p ++ rest), fits, take-append_seam p rest, drop-append_seam p rest)
+      rw (f.whole, append_assoc, number_read (length p) f.number (p ++ rest) f.counts, number_padded (length p) f.number (p ++ rest), fits, take-append_seam p rest, drop-append_seam p rest)
 
   -- Channel messages
 
@@ -61,9 +61,9 @@ module _ (rules : Rules) where
       reads_as : (rest : List ℕ) → name_raw rules (read_channel status delta (s ++ rest)) ≡ reads (taken (event delta.value (midi c m)) rest status delta.padding)
       runs : (rest : List ℕ) → read_body rules status delta (s ++ rest) ≡ read_channel status delta (s ++ rest)
 
-    at-data : (status a : ℕ) (s : List ℕ) → Channel status → a < 0x80 → read_body rules status delta (a ∷ s) ≡ read_channel status delta (a ∷ s)
+    at_data : (status a : ℕ) (s : List ℕ) → Channel status → a < 0x80 → read_body rules status delta (a ∷ s) ≡ read_channel status delta (a ∷ s)
     unfolding read_body
-    at-data status a s is h = rw (lt-ltb a 0x80 h, ne_eqb status 0 (omega (arith, is.low)))
+    at_data status a s is h = rw (lt-ltb a 0x80 h, ne_eqb status 0 (omega (arith, is.low)))
 
     abbrev taking : ℕ → ℕ
     taking upper = pick (eqb upper 0xC) 1 (pick (eqb upper 0xD) 1 2)
@@ -77,7 +77,7 @@ module _ (rules : Rules) where
         record {
           is = is;
           reads_as = λ rest. rw (high, takes, lt-ltb a 0x80 p, rem, high);
-          runs = λ rest. at-data (upper * 16 + c) a rest is p;
+          runs = λ rest. at_data (upper * 16 + c) a rest is p;
         }
 
     with_two : (upper a b : ℕ) → 8 ≤ upper → upper < 15 → taking upper ≡ 2 → a < 0x80 → b < 0x80 → Reads (message_two upper a b) (upper * 16 + c) (a ∷ b ∷ [])
@@ -89,7 +89,7 @@ module _ (rules : Rules) where
         record {
           is = is;
           reads_as = λ rest. rw (high, takes, lt-ltb a 0x80 p, lt-ltb b 0x80 q, rem, high);
-          runs = λ rest. at-data (upper * 16 + c) a (b ∷ rest) is p;
+          runs = λ rest. at_data (upper * 16 + c) a (b ∷ rest) is p;
         }
 
     channel-read : (m : Message) (status : ℕ) (s : List ℕ) → ChannelForm c m status s → Reads m status s
@@ -125,23 +125,23 @@ module _ (rules : Rules) where
       in
       rw (first, own minute (omega arith), own second (omega arith), own frame (omega arith), own subframe (omega arith), low, high, four, q.0, is)
 
-  flats-read : (n : ℕ) → 0 < n → n ≤ 128 → signed_byte ((256 - n) % 256) ≡ neg_ℤ (pos n)
-  flats-read zero l h = absurd (omega arith)
-  flats-read (suc n) l h =
+  flats_read : (n : ℕ) → 0 < n → n ≤ 128 → signed_byte ((256 - n) % 256) ≡ neg_ℤ (pos n)
+  flats_read zero l h = absurd (omega arith)
+  flats_read (suc n) l h =
       let e : 255 - (256 - suc n) ≡ n = omega arith in
       rw (own (256 - suc n) (omega arith), signed_high (256 - suc n) (omega arith) (omega arith), e)
 
-  key-read : (z : ℤ) (a : ℕ) → KeyByte z a → signed_byte (a % 256) ≡ z
-  key-read _ _ (form.sharps {n} h) = rw (own n (omega arith)) (signed_low n h)
-  key-read _ _ (form.flats {n} l h) = flats-read n l h
+  key_read : (z : ℤ) (a : ℕ) → KeyByte z a → signed_byte (a % 256) ≡ z
+  key_read _ _ (form.sharps {n} h) = rw (own n (omega arith)) (signed_low n h)
+  key_read _ _ (form.flats {n} l h) = flats_read n l h
 
-  mode-read : (minor : Bool) (b : ℕ) → ModeByte minor b → not (eqb (b % 256) 0) ≡ minor
-  mode-read _ _ form.major = refl
-  mode-read _ _ form.minor = refl
+  mode_read : (minor : Bool) (b : ℕ) → ModeByte minor b → not (eqb (b % 256) 0) ≡ minor
+  mode_read _ _ form.major = refl
+  mode_read _ _ form.minor = refl
 
-  unnamed-read : (t n : ℕ) (p : List ℕ) → length p ≡ n → Unnamed t n → called_meta rules t p ≡ gives (kind.unknown t p)
+  unnamed_read : (t n : ℕ) (p : List ℕ) → length p ≡ n → Unnamed t n → called_meta rules t p ≡ gives (kind.unknown t p)
   unfolding called_meta is_text
-  unnamed-read _ _ p e (form.other {t} {n} above others) =
+  unnamed_read _ _ p e (form.other {t} {n} above others) =
       let a = neither (eqb t 0x20) _ others in
       let b = neither (eqb t 0x21) _ a.1 in
       let c = neither (eqb t 0x2F) _ b.1 in
@@ -151,11 +151,11 @@ module _ (rules : Rules) where
       let h = neither (eqb t 0x59) _ g.1 in
       let i = neither (eqb t 0x7F) _ h.1 in
       rw (ne_eqb t 0x00 (omega arith), le-leb 1 t (omega arith), lt-leb t 9 above, a.0, b.0, c.0, d.0, f.0, g.0, h.0, i.0)
-  unnamed-read _ _ p e (form.channel {n} h) = rw (e, lt-leb 1 n h)
-  unnamed-read _ _ p e (form.port {n} h) = rw (e, lt-leb 1 n h)
-  unnamed-read _ _ p e (form.tempo {n} h) = rw (e, lt-leb 3 n h)
-  unnamed-read _ _ p e (form.smpte {n} h) = rw (e, lt-leb 5 n h)
-  unnamed-read _ _ p e (form.signature {n} h) = rw (e, lt-leb 4 n h)
+  unnamed_read _ _ p e (form.channel {n} h) = rw (e, lt-leb 1 n h)
+  unnamed_read _ _ p e (form.port {n} h) = rw (e, lt-leb 1 n h)
+  unnamed_read _ _ p e (form.tempo {n} h) = rw (e, lt-leb 3 n h)
+  unnamed_read _ _ p e (form.smpte {n} h) = rw (e, lt-leb 5 n h)
+  unnamed_read _ _ p e (form.signature {n} h) = rw (e, lt-leb 4 n h)
 
   meta_read : (m : Meta (List ℕ)) (t : ℕ) (p : List ℕ) → MetaForm m t p → called_meta rules t p ≡ gives m
   unfolding called_meta is_text track_number_of narrow
@@ -168,24 +168,24 @@ module _ (rules : Rules) where
   meta_read _ _ _ (form.tempo {a} {b} {c} f g h) = rw (own a f, own b g, own c h)
   meta_read _ _ _ (form.smpte_offset {code} {rate} {hour} {minute} {second} {frame} {subframe} r h m s f u) = rw (time_read code rate hour minute second frame subframe r h m s f u)
   meta_read _ _ _ (form.time_signature {a} {b} {c} {d} f g h k) = rw (own a f, own b g, own c h, own d k)
-  meta_read _ _ _ (form.key_signature {z} {minor} {a} {b} k m) = rw (key-read z a k, mode-read minor b m)
+  meta_read _ _ _ (form.key_signature {z} {minor} {a} {b} k m) = rw (key_read z a k, mode_read minor b m)
   meta_read _ _ _ form.sequencer_specific = refl
-  meta_read _ _ _ (form.unknown {t} {p} u) = unnamed-read t (length p) p refl u
+  meta_read _ _ _ (form.unknown {t} {p} u) = unnamed_read t (length p) p refl u
 
   -- Events
 
-  body-read : (running : ℕ) (delta : Delta) (k : Kind (List ℕ)) (s : List ℕ) (after : ℕ) (rest : List ℕ) (f : BodyForm running k s after)
+  body_read : (running : ℕ) (delta : Delta) (k : Kind (List ℕ)) (s : List ℕ) (after : ℕ) (rest : List ℕ) (f : BodyForm running k s after)
       → name_raw rules (read_body rules running delta (s ++ rest)) ≡ reads (taken (event delta.value k) rest after (delta.padding + body_padding f))
   unfolding read_body read_status read_meta name_raw named called
-  body-read running delta _ _ _ rest (form.channel {c} {status} {m} {s} low f) =
+  body_read running delta _ _ _ rest (form.channel {c} {status} {m} {s} low f) =
       let r = channel-read c delta low m status s f in
       rw (le-ltb status 0x80 r.is.low, lt-ltb status 0xF0 r.is.high, add-zero) (r.reads_as rest)
-  body-read running delta _ _ _ rest (form.under {c} {m} {s} low f) =
+  body_read running delta _ _ _ rest (form.under {c} {m} {s} low f) =
       let r = channel-read c delta low m running s f in
       rw (r.runs rest, add-zero) (r.reads_as rest)
-  body-read running delta _ _ _ rest (form.sys_ex {p} {s} f) = rw (payload_read p s rest f)
-  body-read running delta _ _ _ rest (form.escape {p} {s} f) = rw (payload_read p s rest f)
-  body-read running delta _ _ _ rest (form.meta {m} {t} {p} {s} n f) = rw (payload_read p s rest f, meta_read m t p n)
+  body_read running delta _ _ _ rest (form.sys_ex {p} {s} f) = rw (payload_read p s rest f)
+  body_read running delta _ _ _ rest (form.escape {p} {s} f) = rw (payload_read p s rest f)
+  body_read running delta _ _ _ rest (form.meta {m} {t} {p} {s} n f) = rw (payload_read p s rest f, meta_read m t p n)
 
   pub event_read : (running : ℕ) (e : Event (List ℕ)) (after : ℕ) (s rest : List ℕ) → is_running running ≡ true → (f : EventForm running e after s)
       → read_event rules running (s ++ rest) ≡ reads (taken e rest after (event_padding f))
@@ -193,12 +193,12 @@ module _ (rules : Rules) where
   event_read running e after s rest is f =
       let behind = f.body ++ rest in
       let delta : Delta = record { value = e.delta; padding = beyond_fewest (length f.delta) e.delta } in
-      rw (f.whole, is, append_assoc, number_read e.delta f.delta behind f.ticks, number-padded e.delta f.delta behind, body-read running delta e.kind f.body after rest f.stands)
+      rw (f.whole, is, append_assoc, number_read e.delta f.delta behind f.ticks, number_padded e.delta f.delta behind, body_read running delta e.kind f.body after rest f.stands)
 
-  pub event-at : (running : ℕ) (e : Event (List ℕ)) (after : ℕ) (raw : List ℕ) (at : ℕ) (s rest : List ℕ) → is_running running ≡ true → (f : EventForm running e after s)
+  pub event_at_lem : (running : ℕ) (e : Event (List ℕ)) (after : ℕ) (raw : List ℕ) (at : ℕ) (s rest : List ℕ) → is_running running ≡ true → (f : EventForm running e after s)
       → drop at raw ≡ s ++ rest
       → event_at rules running raw at ≡ reads_at (record { event = event e.delta (map_kind (span_before (at + length s)) e.kind); used = length s; running = after; padding = event_padding f })
   unfolding event_at placed map_event
-  event-at running e after raw at s rest is f q =
+  event_at_lem running e after raw at s rest is f q =
       let n : length (drop at raw) - length rest ≡ length s = omega (arith, ap length q, length-append s rest) in
       rw (q, event_read running e after s rest is f, n)

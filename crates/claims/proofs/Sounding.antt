@@ -30,22 +30,22 @@ use Rattle.player.specs.Answers.{with_number, table_beside, list_beside}
 use Rattle.player.specs.Entries.{table_in, cells_left, silence_left}
 use Rattle.player.proofs.Tables.{Shaped, entry_of}
 use Rattle.player.proofs.Joined as player
-use Rattle.player.proofs.WidthsLegal.{all-legal-within, read_within}
-use Rattle.player.proofs.Silencing.{silenced, placed, placed_at, silence_length, silence_fits, silence_within, at, silence-fresh}
+use Rattle.player.proofs.WidthsLegal.{all_legal_within, read_within}
+use Rattle.player.proofs.Silencing.{silenced, placed, placed_at, silence_length, silence_fits, silence_within, at, silence_fresh}
 use Rattle.player.proofs.Silencing as silencing
 use Rattle.player.proofs.TableBytes.{shaped_in}
 use Rattle.player.proofs.Steps.{all_joined}
-use Rattle.player.proofs.Sums.{none_left, in_turn, counts-sum}
+use Rattle.player.proofs.Sums.{none_left, in_turn, counts_sum}
 use Rattle.player.specs.contracts.table.counts as Counts-of
 use Rattle.claims.specs.Calls.{first, second, third, fourth, fifth}
 use Rattle.claims.specs.Sounding.{events_in, Joins, Legal, off, Silenced, Names, next_channel, next_key, InTurn, over, none, more, ListGiven, RowsGiven, Sounding}
 use Rattle.claims.proofs.Calls as calls
 use Rattle.claims.proofs.Owned.{full_table}
-use Rattle.claims.proofs.Player.{accepted_by, silence_by, given-beside, refused-beside, never_nought, accepts, accepts-only, accepts-few, accepts-within, rows-accepts-few, rows-accepts-within, asks, asks-only}
+use Rattle.claims.proofs.Player.{accepted_by, silence_by, given_beside, refused_beside, never_nought, accepts, accepts_only, accepts_few, accepts_within, rows_accepts_few, rows_accepts_within, asks, asks_only}
 use Rattle.claims.proofs.LastNotes.{leaves_last}
 use Rattle.claims.proofs.Names.{names}
-use Rattle.claims.proofs.Silences.{silenced-by}
-use Rattle.claims.proofs.SoundingRows.{rows-exactly, rows-refused, rows-leave, rows-twice, handed, handed_out, handed-none, handed-called, handed-names, handed-silences, handed-fresh}
+use Rattle.claims.proofs.Silences.{silenced_by}
+use Rattle.claims.proofs.SoundingRows.{rows_exactly, rows_refused, rows_leave, rows_twice, handed, handed_out, handed_none, handed_called, handed_names, handed_silences, handed_fresh}
 
 -- A list that is held
 
@@ -55,19 +55,19 @@ take_map f (suc n) [] = refl
 take_map f (suc n) (x ∷ xs) = ap (λ (l : List _). f x ∷ l) (take_map f n xs)
 
 module _ (list : EventList) (es : List (Event Span)) (held : held_of list ≡ holding capacity es) where
-  held-count : list.count ≡ length es
+  held_count : list.count ≡ length es
   unfolding holding
-  held-count = ap (λ (h : Held). h.count) held
+  held_count = ap (λ (h : Held). h.count) held
 
-  held-records : map record_of list.records ≡ es ++ replicate (capacity - length es) filler
+  held_records : map record_of list.records ≡ es ++ replicate (capacity - length es) filler
   unfolding holding
-  held-records = ap (λ (h : Held). h.records) held
+  held_records = ap (λ (h : Held). h.records) held
 
-  held-events : events_in list ≡ es
-  held-events = rw (held-count, held-records) (take-append_seam es (replicate (capacity - length es) filler))
+  held_events : events_in list ≡ es
+  held_events = rw (held_count, held_records) (take-append_seam es (replicate (capacity - length es) filler))
 
-  held-legal : (rules : Rules) (bytes : List ℕ) → length es ≤ capacity → records_judged rules bytes es ≡ map gives (map (map_event (bytes_of bytes)) es) → Legal rules bytes list
-  held-legal rules bytes few legal = (rw held-count few, rw (take_map (smf.legal rules bytes), held-events) legal)
+  held_legal : (rules : Rules) (bytes : List ℕ) → length es ≤ capacity → records_judged rules bytes es ≡ map gives (map (map_event (bytes_of bytes)) es) → Legal rules bytes list
+  held_legal rules bytes few legal = (rw held_count few, rw (take_map (smf.legal rules bytes), held_events) legal)
 
 -- The list that `silence` gave
 
@@ -77,7 +77,7 @@ module _ (table : Table) (channel key : ℕ) (list : EventList) (number : ℕ) (
 
   gave_all : (es : List (Event Span)) → asked ≡ gives es → held_of list ≡ holding capacity (silence_from capacity table (key_place channel key))
   gave_all es e =
-      (given-beside (holding capacity []) asked (holding capacity) told es e).1 ∙ ap (holding capacity) (sym (asks-only capacity table channel key es e).2)
+      (given_beside (holding capacity []) asked (holding capacity) told es e).1 ∙ ap (holding capacity) (sym (asks_only capacity table channel key es e).2)
 
   -- so many as a list holds, or after a refusal none
   gave : (most : ℕ) × (most ≤ capacity) × (held_of list ≡ holding capacity (silence_from most table (key_place channel key)))
@@ -85,25 +85,25 @@ module _ (table : Table) (channel key : ℕ) (list : EventList) (number : ℕ) (
   gave =
       by_answer asked
       (λ es e. (capacity, omega arith, gave_all es e))
-      (λ n e. (0, omega arith, (refused-beside (holding capacity []) asked (holding capacity) told n e).1))
+      (λ n e. (0, omega arith, (refused_beside (holding capacity []) asked (holding capacity) told n e).1))
 
-  gave-legal : (rules : Rules) (bytes : List ℕ) → Legal rules bytes list
-  gave-legal rules bytes =
+  gave_legal : (rules : Rules) (bytes : List ℕ) → Legal rules bytes list
+  gave_legal rules bytes =
       let place = key_place channel key in
       let most = gave.0 in
-      held-legal list (silence_from most table place) gave.2 rules bytes (omega (arith, silence_fits most table place, gave.1))
+      held_legal list (silence_from most table place) gave.2 rules bytes (omega (arith, silence_fits most table place, gave.1))
       (silencing.silence_legal rules bytes most table place)
 
-  gave-only : number ≡ 0 → (channel < channels) × (key < keys) × (held_of list ≡ holding capacity (silence_from capacity table (key_place channel key)))
-  gave-only z =
+  gave_only : number ≡ 0 → (channel < channels) × (key < keys) × (held_of list ≡ holding capacity (silence_from capacity table (key_place channel key)))
+  gave_only z =
       by_answer asked
-      (λ es e. let a = asks-only capacity table channel key es e in (a.0, a.1, gave_all es e))
-      (λ n e. absurd (never_nought (18 ∷ []) asked n (silence_by capacity table channel key) e (sym (refused-beside (holding capacity []) asked (holding capacity) told n e).0 ∙ z)))
+      (λ es e. let a = asks_only capacity table channel key es e in (a.0, a.1, gave_all es e))
+      (λ n e. absurd (never_nought (18 ∷ []) asked n (silence_by capacity table channel key) e (sym (refused_beside (holding capacity []) asked (holding capacity) told n e).0 ∙ z)))
 
-  gave-names : number ≡ 0 → Names table channel key (events_in list)
-  gave-names z =
-      let g = gave-only z in
-      rw (held-events list (silence_from capacity table (key_place channel key)) g.2) (names table channel key g.0 g.1)
+  gave_names : number ≡ 0 → Names table channel key (events_in list)
+  gave_names z =
+      let g = gave_only z in
+      rw (held_events list (silence_from capacity table (key_place channel key)) g.2) (names table channel key g.0 g.1)
 
 -- The table that `after` left
 
@@ -116,20 +116,20 @@ module _ (table : Table) (list : EventList) (left : Table) (number : ℕ) (told 
   records = map record_of list.records
 
   took : list.count ≤ capacity → all_within (events_in list) ≡ true → (number ≡ 0) × (left ≡ table_after table (events_in list))
-  took few fit = given-beside table (accepted capacity records list.count) (table_after table) told (events_in list) (accepts capacity records list.count few fit)
+  took few fit = given_beside table (accepted capacity records list.count) (table_after table) told (events_in list) (accepts capacity records list.count few fit)
 
-  took-only : number ≡ 0 → (list.count ≤ capacity) × (all_within (events_in list) ≡ true) × (left ≡ table_after table (events_in list))
-  took-only z =
+  took_only : number ≡ 0 → (list.count ≤ capacity) × (all_within (events_in list) ≡ true) × (left ≡ table_after table (events_in list))
+  took_only z =
       by_answer (accepted capacity records list.count)
       (λ es e.
-      let a = accepts-only capacity records list.count es e in
-      (a.0, rw a.2 a.1, (given-beside table (accepted capacity records list.count) (table_after table) told es e).1 ∙ ap (table_after table) (sym a.2)))
+      let a = accepts_only capacity records list.count es e in
+      (a.0, rw a.2 a.1, (given_beside table (accepted capacity records list.count) (table_after table) told es e).1 ∙ ap (table_after table) (sym a.2)))
       (λ n e.
       absurd (never_nought (18 ∷ 21 ∷ []) (accepted capacity records list.count) n (accepted_by capacity records list.count) e
-      (sym (refused-beside table (accepted capacity records list.count) (table_after table) told n e).0 ∙ z)))
+      (sym (refused_beside table (accepted capacity records list.count) (table_after table) told n e).0 ∙ z)))
 
-  refused-by : (n : ℕ) → accepted capacity records list.count ≡ refuses n → number ≡ n
-  refused-by n e = (refused-beside table (accepted capacity records list.count) (table_after table) told n e).0
+  refused_by : (n : ℕ) → accepted capacity records list.count ≡ refuses n → number ≡ n
+  refused_by n e = (refused_beside table (accepted capacity records list.count) (table_after table) told n e).0
 
 -- Lists in turn
 
@@ -150,10 +150,10 @@ nothing_behind t = refl
 module _ (t : Table) (Given : ℕ → ℕ → List (Event Span) → Type 0)
     (own : (channel key : ℕ) (es : List (Event Span)) → Given channel key es → es ≡ silence_from capacity t (key_place channel key)) where
   -- the last event of a list names the last of its places
-  last-named : (place : ℕ) (es : List (Event Span)) (c k : ℕ) → es ++ (off c k ∷ []) ≡ silence_from capacity t place → length (silenced capacity t place) ≡ suc (length es)
+  last_named : (place : ℕ) (es : List (Event Span)) (c k : ℕ) → es ++ (off c k ∷ []) ≡ silence_from capacity t place → length (silenced capacity t place) ≡ suc (length es)
       → note_off_at (get_or (silenced capacity t place) (length es) 0) ≡ off c k
   unfolding silence_from
-  last-named place es c k all long =
+  last_named place es c k all long =
       sym (named_at (silenced capacity t place) (length es) (omega arith))
       ∙ ap (λ (l : List (Event Span)). get_or l (length es) filler) (sym all)
       ∙ get_or-append_seam es (off c k) [] filler
@@ -169,7 +169,7 @@ module _ (t : Table) (Given : ℕ → ℕ → List (Event Span) → Type 0)
       let all = own channel key (es ++ (off c k ∷ [])) g in
       let long : length (silenced capacity t place) ≡ suc (length es) = omega (arith, silence_length capacity t place, simp length-append at (ap length all)) in
       let q = get_or (silenced capacity t place) (length es) 0 in
-      let kinds : midi (q / keys) (note_off (q % keys) 0) ≡ midi c (note_off k 0) = ap (λ (x : Event Span). x.kind) (last-named place es c k all long) in
+      let kinds : midi (q / keys) (note_off (q % keys) 0) ≡ midi c (note_off k 0) = ap (λ (x : Event Span). x.kind) (last_named place es c k all long) in
       let next = next_place q c k (cc) (cc) in
       let there : q < places = placed_at (silenced capacity t place) (length es) (placed capacity t place) (omega (arith, long)) in
       let behind = in_all (omega (arith, next, there)) rest in
@@ -180,10 +180,10 @@ module _ (t : Table) (Given : ℕ → ℕ → List (Event Span) → Type 0)
 
 module _ (table : Table) (a : EventList) (left : Table) (n : ℕ) (told : AfterTold table a left n) (z : n ≡ 0) (b : EventList) (left' : Table) (n' : ℕ) (told' : AfterTold left b left' n') (z' : n' ≡ 0) where
   -- two lists that were accepted in turn, and a list that joins them
-  after-twice : (c : EventList) (left'' : Table) (n'' : ℕ) → AfterTold table c left'' n'' → Joins a b c → (n'' ≡ 0) × (left'' ≡ left')
-  after-twice c left'' n'' told'' join =
-      let one = took-only table a left n told z in
-      let two = took-only left b left' n' told' z' in
+  after_twice : (c : EventList) (left'' : Table) (n'' : ℕ) → AfterTold table c left'' n'' → Joins a b c → (n'' ≡ 0) × (left'' ≡ left')
+  after_twice c left'' n'' told'' join =
+      let one = took_only table a left n told z in
+      let two = took_only left b left' n' told' z' in
       let both = took table c left'' n'' told'' join.0 (rw join.1 (all_joined (events_in a) (events_in b) ∙ rw (one.1, two.1))) in (
         both.0,
         both.1
@@ -195,24 +195,24 @@ module _ (table : Table) (a : EventList) (left : Table) (n : ℕ) (told : AfterT
 
 module _ (table : Table) (channel key : ℕ) (list : EventList) (number : ℕ) (told : with_number (held_of list) number ≡ list_beside capacity (silence capacity table channel key))
     (left : Table) (n : ℕ) (told' : AfterTold table list left n) where
-  gave-silences : (n ≡ 0) × Silenced table (events_in list) left
-  gave-silences =
+  gave_silences : (n ≡ 0) × Silenced table (events_in list) left
+  gave_silences =
       let g = gave table channel key list number told in
       let place = key_place channel key in
       let es = silence_from g.0 table place in
-      let events = held-events list es g.2 in
-      let many = held-count list es g.2 in
+      let events = held_events list es g.2 in
+      let many = held_count list es g.2 in
       let t = took table list left n told' (omega (arith, many, silence_fits g.0 table place, g.1)) (rw events (silence_within g.0 table place)) in
-      (t.0, rw (t.1, events) (silenced-by g.0 table place))
+      (t.0, rw (t.1, events) (silenced_by g.0 table place))
 
   gave_fresh : Shaped table → channel ≡ 0 → key ≡ 0 → sum ◌+◌ 0 (counts table) ≤ capacity → left ≡ fresh
   gave_fresh whole c k few =
       let all = silence_from capacity table 0 in
       let held : held_of list ≡ holding capacity all = gave_all table 0 0 list number (rw (c, k) at told) all (asks capacity table 0 0 (omega arith) (omega arith)) in
-      let events = held-events list all held in
-      let many = held-count list all held in
+      let events = held_events list all held in
+      let many = held_count list all held in
       let t = took table list left n told' (omega (arith, many, silence_fits capacity table 0)) (rw events (silence_within capacity table 0)) in
-      t.1 ∙ ap (table_after table) events ∙ silence-fresh capacity table (rw (counts-sum whole) at few)
+      t.1 ∙ ap (table_after table) events ∙ silence_fresh capacity table (rw (counts_sum whole) at few)
 
 -- a list as it was read
 module _ (rules : Rules) (running : ℕ) (raw : List ℕ) (at : ℕ) (r : ReadList) (told : list_read r ≡ held_as capacity (list_at rules capacity running raw at)) where
@@ -223,17 +223,17 @@ module _ (rules : Rules) (running : ℕ) (raw : List ℕ) (at : ℕ) (r : ReadLi
       let es = map (event_from raw at) l.events in
       let own = list_read rules capacity running (drop at raw) in
       let held : held_of r.list ≡ holding capacity es = ap (λ (h : ListHeld). h.list) told in
-      let long : r.list.count ≡ length l.events = held-count r.list es held ∙ length-map l.events (event_from raw at) in
+      let long : r.list.count ≡ length l.events = held_count r.list es held ∙ length-map l.events (event_from raw at) in
       (took table r.list left number told' (omega (arith, long, own.count))
-      (rw (held-events r.list es held) (read_within rules raw at l.events own.legal))).0
+      (rw (held_events r.list es held) (read_within rules raw at l.events own.legal))).0
 
 -- what calls gave from a channel and key on
 list_given_lem : (table table' : Table) (channel channel' key key' : ℕ) (list : EventList) (number : ℕ) (es : List (Event Span))
     → with_number (held_of list) number ≡ list_beside capacity (silence capacity table' channel' key')
     → (table' ≡ table) × (channel' ≡ channel) × (key' ≡ key) × (number ≡ 0) × (events_in list ≡ es) → es ≡ silence_from capacity table (key_place channel key)
 list_given_lem table table' channel channel' key key' list number es told same =
-    let held = (gave-only table channel key list number (rw (same.0, same.1, same.2) at told) same.3).2 in
-    sym same.4 ∙ held-events list (silence_from capacity table (key_place channel key)) held
+    let held = (gave_only table channel key list number (rw (same.0, same.1, same.2) at told) same.3).2 in
+    sym same.4 ∙ held_events list (silence_from capacity table (key_place channel key)) held
 
 given_list : (table : Table) (channel key : ℕ) (es : List (Event Span)) → ListGiven table channel key es → es ≡ silence_from capacity table (key_place channel key)
 given_list table channel key es g =
@@ -246,7 +246,7 @@ rows_given : (table table' : List ℕ) (channel channel' key key' : ℕ) (cells 
     → (table' ≡ table) × (channel' ≡ channel) × (key' ≡ key) × (r ≡ 0) × (called_rows count' cells' ≡ es) → es ≡ silence_from capacity (table_in table) (key_place channel key)
 rows_given table table' channel channel' key key' cells cells' count' r es told same =
     let h = handed (table_in table) channel key cells cells' count' r (rw (same.0, same.1, same.2) at told) same.3 in
-    sym same.4 ∙ handed-called (table_in table) channel key cells' count' h
+    sym same.4 ∙ handed_called (table_in table) channel key cells' count' h
 
 given_rows : (table : List ℕ) (channel key : ℕ) (es : List (Event Span)) → RowsGiven table channel key es → es ≡ silence_from capacity (table_in table) (key_place channel key)
 given_rows table channel key es g =
@@ -265,65 +265,65 @@ sounding =
       accepts = λ κs a r e told.
           let list = second a in
           let took-all = took (first a) list r (third e).now told in
-          let only = took-only (first a) list r (third e).now told in
+          let only = took_only (first a) list r (third e).now told in
           ((λ z. ((only z).0, (only z).1)), (λ h. (took-all h.0 h.1).0));
       many = λ κs a r e told h.
           let list = second a in
-          refused-by (first a) list r (third e).now told 21 (accepts-few capacity (map record_of list.records) list.count h);
+          refused_by (first a) list r (third e).now told 21 (accepts_few capacity (map record_of list.records) list.count h);
       wide = λ κs a r e told h w.
           let list = second a in
-          refused-by (first a) list r (third e).now told 18 (accepts-within capacity (map record_of list.records) list.count h w);
+          refused_by (first a) list r (third e).now told 18 (accepts_within capacity (map record_of list.records) list.count h w);
       entry_many = λ κs a r e told h.
-          rows-refused (third a).now (first a).now (second a) (third e).now r told 21 (rows-accepts-few capacity (first a).now (second a) h);
+          rows_refused (third a).now (first a).now (second a) (third e).now r told 21 (rows_accepts_few capacity (first a).now (second a) h);
       entry_wide = λ κs a r e told h w.
-          rows-refused (third a).now (first a).now (second a) (third e).now r told 18 (rows-accepts-within capacity (first a).now (second a) h w);
-      entry_accepts = λ κs a r e told. rows-exactly (third a).now (first a).now (second a) (third e).now r told;
+          rows_refused (third a).now (first a).now (second a) (third e).now r told 18 (rows_accepts_within capacity (first a).now (second a) h w);
+      entry_accepts = λ κs a r e told. rows_exactly (third a).now (first a).now (second a) (third e).now r told;
       fresh = λ κs a r e told. rw told fresh_entry;
       entry_asks = λ κs a r e told. handed_out (table_in (first a).now) (second a) (third a) (fourth a).now (fourth e).now (fifth e).now r told;
-      entry_unasked = λ κs a r e told. handed-none (table_in (first a).now) (second a) (third a) (fourth a).now (fourth e).now (fifth e).now r told;
+      entry_unasked = λ κs a r e told. handed_none (table_in (first a).now) (second a) (third a) (fourth a).now (fourth e).now (fifth e).now r told;
       leaves = λ κs a r e told z.
           let list = second a in
-          rw (took-only (first a) list r (third e).now told z).2 (leaves_last (first a) (events_in list));
-      entry_leaves = λ κs a r e told z. rows-leave (third a).now (first a).now (second a) (third e).now r told z;
+          rw (took_only (first a) list r (third e).now told z).2 (leaves_last (first a) (events_in list));
+      entry_leaves = λ κs a r e told z. rows_leave (third a).now (first a).now (second a) (third e).now r told z;
       joined = player.joined;
       after_joined = λ κs a r e told z κs' a' r' e' told' same z' κs'' a'' r'' e'' told'' same' join.
-          after-twice (first a) (second a) r (third e).now told z (second a') r' (third e').now (rw same at told') z' (second a'') r'' (third e'').now (rw same' at told'') join;
+          after_twice (first a) (second a) r (third e).now told z (second a') r' (third e').now (rw same at told') z' (second a'') r'' (third e'').now (rw same' at told'') join;
       entry_joined = λ κs a r e told z κs' a' r' e' told' same z' κs'' a'' r'' e'' told'' same' join.
-          rows-twice (third a).now (first a).now (second a) (third e).now r told z (first a').now (second a') (third e').now r' (rw same at told') z'
+          rows_twice (third a).now (first a).now (second a) (third e).now r told z (first a').now (second a') (third e').now r' (rw same at told') z'
           (first a'').now (second a'') (third e'').now r'' (rw same' at told'') join;
       takes_legal = λ κs a r e told rules bytes legal.
           let list = second a in
-          (took (first a) list r (third e).now told legal.0 (all-legal-within rules bytes list.count (map record_of list.records) (listed bytes (map record_of list.records) list.count) legal.1)).0;
+          (took (first a) list r (third e).now told legal.0 (all_legal_within rules bytes list.count (map record_of list.records) (listed bytes (map record_of list.records) list.count) legal.1)).0;
       takes_read = λ κs a r e told κs' a' r' e' told' same.
           read_took (rules_of (fourth a)) (third a).status (first a).now (second a) r told (first a') r' (third e').now (rw same at told');
       asks = λ κs a r e told.
           let c = (second a).0 in
           let k = (third a).0 in (
-            (λ z. let g = gave-only (first a) c k r (fourth e).now told z in (g.0, g.1)),
-            (λ h. (given-beside (holding capacity []) (silence capacity (first a) c k) (holding capacity) told _ (asks capacity (first a) c k h.0 h.1)).0),
+            (λ z. let g = gave_only (first a) c k r (fourth e).now told z in (g.0, g.1)),
+            (λ h. (given_beside (holding capacity []) (silence capacity (first a) c k) (holding capacity) told _ (asks capacity (first a) c k h.0 h.1)).0),
           );
-      names = λ κs a r e told z. gave-names (first a) (second a).0 (third a).0 r (fourth e).now told z;
+      names = λ κs a r e told z. gave_names (first a) (second a).0 (third a).0 r (fourth e).now told z;
       entry_names = λ κs a r e told z.
           let h = handed (table_in (first a).now) (second a) (third a) (fourth a).now (fourth e).now (fifth e).now r told z in
-          handed-names (table_in (first a).now) (second a) (third a) (fourth e).now (fifth e).now h;
-      silence_legal = λ κs a r e told. gave-legal (first a) (second a).0 (third a).0 r (fourth e).now told;
+          handed_names (table_in (first a).now) (second a) (third a) (fourth e).now (fifth e).now h;
+      silence_legal = λ κs a r e told. gave_legal (first a) (second a).0 (third a).0 r (fourth e).now told;
       silences = λ κs a r e told κs' a' r' e' told' same same'.
-          gave-silences (first a) (second a).0 (third a).0 r (fourth e).now told r' (third e').now (rw (same, same') at told');
+          gave_silences (first a) (second a).0 (third a).0 r (fourth e).now told r' (third e').now (rw (same, same') at told');
       entry_silences = λ κs a r e told z κs' a' r' e' told' same same' same''.
           let h = handed (table_in (first a).now) (second a) (third a) (fourth a).now (fourth e).now (fifth e).now r told z in
           rw (same, same')
-          (handed-silences (first a).now (second a) (third a) (fourth e).now (fifth e).now h (third e').now r' (rw (same, same', same'') at told'));
+          (handed_silences (first a).now (second a) (third a) (fourth e).now (fifth e).now h (third e').now r' (rw (same, same', same'') at told'));
       all_off = λ κs a r e told c k κs' a' r' e' told' good same few κs'' a'' r'' e'' told'' same' same'' κs''' a''' r''' e''' told'''.
           gave_fresh (first a) (second a).0 (third a).0 r (fourth e).now told r'' (third e'').now (rw (same', same'') at told'')
           (rw same at (full_table κs' a' good)) c k (rw (← same, ← told') few)
           ∙ sym told''';
       entry_all_off = λ κs a r e told c k z κs' a' r' e' told' same few κs'' a'' r'' e'' told'' same' same'' same'''.
           let h = handed (table_in (first a).now) (second a) (third a) (fourth a).now (fourth e).now (fifth e).now r told z in
-          handed-fresh (first a).now (second a) (third a) (fourth e).now (fifth e).now h (third e'').now r'' (rw (same', same'', same''') at told'')
+          handed_fresh (first a).now (second a) (third a) (fourth e).now (fifth e).now h (third e'').now r'' (rw (same', same'', same''') at told'')
           c k (rw (← same, ← told') few);
       counted = λ κs a r e told good many turns.
-          in_all (first a) (ListGiven (first a)) (given_list (first a)) (omega arith) turns ∙ sym (counts-sum (full_table κs a good)) ∙ ap (sum ◌+◌ 0) (sym told);
+          in_all (first a) (ListGiven (first a)) (given_list (first a)) (omega arith) turns ∙ sym (counts_sum (full_table κs a good)) ∙ ap (sum ◌+◌ 0) (sym told);
       entry_counted = λ κs a r e told many turns.
           let table = (first a).now in
-          in_all (table_in table) (RowsGiven table) (given_rows table) (omega arith) turns ∙ sym (counts-sum (shaped_in table)) ∙ ap (sum ◌+◌ 0) (sym told);
+          in_all (table_in table) (RowsGiven table) (given_rows table) (omega arith) turns ∙ sym (counts_sum (shaped_in table)) ∙ ap (sum ◌+◌ 0) (sym told);
     }

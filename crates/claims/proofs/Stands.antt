@@ -12,8 +12,8 @@ use Rattle.smf.specs.Event.{EventAt, ReadAt, reads_at, refused_at, event_at}
 use Rattle.smf.specs.Lists.{Stop, ended, full, stopped, ListAt, list_placed, read_more, list_at}
 use Rattle.smf.proofs.Answer.{by-test, by-lt}
 use Rattle.smf.proofs.Place.{site_begun}
-use Rattle.smf.proofs.Reading.{event-invalid}
-use Rattle.smf.proofs.ListPlaces.{in_front, list-begun, list-invalid, more-end, more-full, more-refused, more-step, more-next}
+use Rattle.smf.proofs.Reading.{event_invalid}
+use Rattle.smf.proofs.ListPlaces.{in_front, list_begun, list_invalid, more_end, more_full, more_refused, more_step, more_next}
 use Rattle.claims.specs.Stands.{EventOrLeft, Stand, none, next, Why, ListStands}
 use Rattle.claims.proofs.ReadLeaves.{event_or_left}
 
@@ -28,44 +28,44 @@ module _ (rules : Rules) (bytes : List ℕ) (at : ℕ) where
   abbrev more : ℕ → ℕ → ℕ → ListAt
   more most running place = list_placed bytes at (read_more rules most running (drop place bytes))
 
-  why-behind : (most : ℕ) (a : EventAt) (l : ListAt) (stop : Stop) → Why rules bytes most l stop → Why rules bytes (suc most) (in_front a.event a.padding l) stop
-  why-behind most a l ended w = w
-  why-behind most a l full w = (ap suc w.0, w.1)
-  why-behind most a l (stopped n) w = w
+  why_behind : (most : ℕ) (a : EventAt) (l : ListAt) (stop : Stop) → Why rules bytes most l stop → Why rules bytes (suc most) (in_front a.event a.padding l) stop
+  why_behind most a l ended w = w
+  why_behind most a l full w = (ap suc w.0, w.1)
+  why_behind most a l (stopped n) w = w
 
-  at-end : (most running place : ℕ) → Sited bytes at place → length bytes ≤ place → More most running place (more most running place)
-  at-end most running place site h =
-      rw (more-end rules running bytes at place site most h)
+  at_end : (most running place : ℕ) → Sited bytes at place → length bytes ≤ place → More most running place (more most running place)
+  at_end most running place site h =
+      rw (more_end rules running bytes at place site most h)
       (record { stand = none; few = omega arith; why = h; before = λ n e. let z : ◌≡◌ {A = ℕ} 0 1 = cc in absurd (omega arith) })
 
-  at-full : (running place : ℕ) → Sited bytes at place → place < length bytes → More zero running place (more zero running place)
-  at-full running place site h =
-      rw (more-full rules running bytes at place site h) (record { stand = none; few = omega arith; why = (refl, h); before = λ n e. h })
+  at_full : (running place : ℕ) → Sited bytes at place → place < length bytes → More zero running place (more zero running place)
+  at_full running place site h =
+      rw (more_full rules running bytes at place site h) (record { stand = none; few = omega arith; why = (refl, h); before = λ n e. h })
 
   one : (most running place : ℕ) → Sited bytes at place → place < length bytes
       → ((r p : ℕ) → Sited bytes at p → More most r p (more most r p))
       → (a : ReadAt) → event_at rules running bytes place ≡ a → EventOrLeft rules bytes running place a
       → More (suc most) running place (more (suc most) running place)
   one most running place site h others (refused_at n used after padding) e l =
-      rw (more-refused rules running bytes at place site most h e)
+      rw (more_refused rules running bytes at place site most h e)
       (record { stand = none; few = omega arith; why = (l.0, (after, e ∙ rw (l.1, l.3))); before = λ m q. h })
   one most running place site h others (reads_at a) e l =
-      let m = others a.running (place + a.used) (more-next rules running bytes at place site h e).0 in
-      rw (more-step rules running bytes at place site most h e)
+      let m = others a.running (place + a.used) (more_next rules running bytes at place site h e).0 in
+      rw (more_step rules running bytes at place site most h e)
       (record {
         stand = next a e m.stand;
         few = omega (arith, m.few);
-        why = why-behind most a (more most a.running (place + a.used)) (more most a.running (place + a.used)).stop m.why;
+        why = why_behind most a (more most a.running (place + a.used)) (more most a.running (place + a.used)).stop m.why;
         before = m.before;
       })
 
   mores : (most running place : ℕ) → Sited bytes at place → More most running place (more most running place)
   mores zero running place site =
-      by-lt place (length bytes) (at-full running place site) (at-end zero running place site)
+      by-lt place (length bytes) (at_full running place site) (at_end zero running place site)
   mores (suc most) running place site =
       by-lt place (length bytes)
       (λ h. one most running place site h (mores most) (event_at rules running bytes place) refl (event_or_left rules bytes running place))
-      (at-end (suc most) running place site)
+      (at_end (suc most) running place site)
 
   module _ (most running : ℕ) where
     abbrev list : ListAt
@@ -74,14 +74,14 @@ module _ (rules : Rules) (bytes : List ℕ) (at : ℕ) where
     valid : is_running running ≡ true → ListStands rules bytes most running at list
     valid is =
         let m = mores most running at (site_begun bytes at) in
-        rw (list-begun rules most running bytes at is)
+        rw (list_begun rules most running bytes at is)
         (record { stand = m.stand; few = m.few; why = m.why; before = λ _. m.before; invalid = λ not. absurd (true≢false (sym is ∙ not)) })
 
     not_valid : is_running running ≡ false → ListStands rules bytes most running at list
     not_valid not =
-        let e : event_at rules running bytes at ≡ refused_at 1 0 running 0 = sym (event-invalid rules running bytes at not) in
+        let e : event_at rules running bytes at ≡ refused_at 1 0 running 0 = sym (event_invalid rules running bytes at not) in
         let l : EventOrLeft rules bytes running at (refused_at 1 0 running 0) = subst (EventOrLeft rules bytes running at) e (event_or_left rules bytes running at) in
-        rw (list-invalid rules most running bytes at not)
+        rw (list_invalid rules most running bytes at not)
         (record {
           stand = none;
           few = omega arith;

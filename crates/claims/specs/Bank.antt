@@ -21,7 +21,7 @@ use Rattle.bank.specs.declared.read.BankTrack.TheVariants as track
 use Rattle.bank.specs.declared.writing.WroteBank.TheVariants as wrote
 use Rattle.bank.proofs as bank
 use Rattle.claims.specs.Calls.{Always, EventListRead, BankRead, BankTrack, ListTrack, WriteBank, WriteOwnedBank, ◌&◌}
-use Rattle.claims.specs.EntryCalls.{listReadEntry, bankReadEntry, bankTrackEntry, bankListEntry, bankWriteEntry}
+use Rattle.claims.specs.EntryCalls.{list_read_entry, bank_read_entry, bank_track_entry, bank_list_entry, bank_write_entry}
 use Rattle.claims.specs.Point3.{Bytes}
 
 -- the tracks of a bank that was read from a block: the bytes of as many of its ranges as it counts
@@ -128,49 +128,49 @@ pub record Calls : Type 0 where
 
 -- the same of the entries
 pub record Entries : Type 0 where
-  pub accepts : Always bank.entries.apk_bank_write.Reads.Learnt (bankWriteEntry (λ bytes ranges count out total r.
+  pub accepts : Always bank.entries.apk_bank_write.Reads.Learnt (bank_write_entry (λ bytes ranges count out total r.
       (r ≡ 0) ↔ Allowed most_tracks bytes (ranges_in most_tracks ranges) count (length out.before)))
-  pub many : Always bank.entries.apk_bank_write.Reads.Learnt (bankWriteEntry (λ bytes ranges count out total r. most_tracks < count → r ≡ 25))
-  pub outside : Always bank.entries.apk_bank_write.Reads.Learnt (bankWriteEntry (λ bytes ranges count out total r.
+  pub many : Always bank.entries.apk_bank_write.Reads.Learnt (bank_write_entry (λ bytes ranges count out total r. most_tracks < count → r ≡ 25))
+  pub outside : Always bank.entries.apk_bank_write.Reads.Learnt (bank_write_entry (λ bytes ranges count out total r.
       count ≤ most_tracks → all_inside bytes (take count (ranges_in most_tracks ranges)) ≡ false → r ≡ 19))
-  pub large : Always bank.entries.apk_bank_write.Reads.Learnt (bankWriteEntry (λ bytes ranges count out total r.
+  pub large : Always bank.entries.apk_bank_write.Reads.Learnt (bank_write_entry (λ bytes ranges count out total r.
       count ≤ most_tracks → all_inside bytes (take count (ranges_in most_tracks ranges)) ≡ true
       → (most_bytes < bank_length (cell_tracks bytes ranges count)) ⊎ (length out.before < bank_length (cell_tracks bytes ranges count)) → r ≡ 20))
-  pub leaves : Always bank.entries.apk_bank_write.Reads.Learnt (bankWriteEntry (λ bytes ranges count out total r. r ≡ 0
+  pub leaves : Always bank.entries.apk_bank_write.Reads.Learnt (bank_write_entry (λ bytes ranges count out total r. r ≡ 0
       → Leaves most_tracks (cell_tracks bytes ranges count) out.before total.after out.after))
-  pub reads_back : Always bank.entries.apk_bank_write.Reads.Learnt (bankWriteEntry (λ bytes ranges count out total r. r ≡ 0
-      → Always bank.entries.apk_bank_read.Reads.Learnt (bankReadEntry (λ block ranges' count' r'. block ≡ take total.after out.after
+  pub reads_back : Always bank.entries.apk_bank_write.Reads.Learnt (bank_write_entry (λ bytes ranges count out total r. r ≡ 0
+      → Always bank.entries.apk_bank_read.Reads.Learnt (bank_read_entry (λ block ranges' count' r'. block ≡ take total.after out.after
       → (r' ≡ 0) × (count'.after ≡ count) × (cell_tracks block ranges'.after count'.after ≡ cell_tracks bytes ranges count)))))
-  pub reads : Always bank.entries.apk_bank_read.Reads.Learnt (bankReadEntry (λ block ranges count r. (tracks : List (List ℕ)) → IsBank most_tracks block tracks
+  pub reads : Always bank.entries.apk_bank_read.Reads.Learnt (bank_read_entry (λ block ranges count r. (tracks : List (List ℕ)) → IsBank most_tracks block tracks
       → (r ≡ 0) × (cell_tracks block ranges.after count.after ≡ tracks)))
-  pub unread : Always bank.entries.apk_bank_read.Reads.Learnt (bankReadEntry (λ block ranges count r. Unread most_tracks block (λ n. r ≡ n)))
-  pub one_form : Always bank.entries.apk_bank_read.Reads.Learnt (bankReadEntry (λ block ranges count r. Bytes block → r ≡ 0
+  pub unread : Always bank.entries.apk_bank_read.Reads.Learnt (bank_read_entry (λ block ranges count r. Unread most_tracks block (λ n. r ≡ n)))
+  pub one_form : Always bank.entries.apk_bank_read.Reads.Learnt (bank_read_entry (λ block ranges count r. Bytes block → r ≡ 0
       → IsBank most_tracks block (cell_tracks block ranges.after count.after)))
-  pub alone : Always bank.entries.apk_bank_read.Reads.Learnt (bankReadEntry (λ block ranges count r.
-      Always bank.entries.apk_bank_read.Reads.Learnt (bankReadEntry (λ other ranges' count' r'. Bytes block → Bytes other → r ≡ 0 → r' ≡ 0
+  pub alone : Always bank.entries.apk_bank_read.Reads.Learnt (bank_read_entry (λ block ranges count r.
+      Always bank.entries.apk_bank_read.Reads.Learnt (bank_read_entry (λ other ranges' count' r'. Bytes block → Bytes other → r ≡ 0 → r' ≡ 0
       → cell_tracks block ranges.after count.after ≡ cell_tracks other ranges'.after count'.after → block ≡ other))))
-  pub writes_back : Always bank.entries.apk_bank_read.Reads.Learnt (bankReadEntry (λ block ranges count r. Bytes block → r ≡ 0
-      → Always bank.entries.apk_bank_write.Reads.Learnt (bankWriteEntry (λ bytes ranges' count' out total r'.
+  pub writes_back : Always bank.entries.apk_bank_read.Reads.Learnt (bank_read_entry (λ block ranges count r. Bytes block → r ≡ 0
+      → Always bank.entries.apk_bank_write.Reads.Learnt (bank_write_entry (λ bytes ranges' count' out total r'.
       bytes ≡ block → ranges' ≡ ranges.after → count' ≡ count.after → length block ≤ length out.before
       → (r' ≡ 0) × (total.after ≡ length block) × (take (length block) out.after ≡ block)))))
-  pub there : Always bank.entries.apk_bank_read.Reads.Learnt (bankReadEntry (λ block ranges count r. r ≡ 0
-      → Always bank.entries.apk_bank_track.Reads.Learnt (bankTrackEntry (λ block' index start long r'. block' ≡ block → index < count.after
+  pub there : Always bank.entries.apk_bank_read.Reads.Learnt (bank_read_entry (λ block ranges count r. r ≡ 0
+      → Always bank.entries.apk_bank_track.Reads.Learnt (bank_track_entry (λ block' index start long r'. block' ≡ block → index < count.after
       → (r' ≡ 0) × (record { start = start.after; length = long.after } ≡ range_in ranges.after index)))))
-  pub none : Always bank.entries.apk_bank_read.Reads.Learnt (bankReadEntry (λ block ranges count r. r ≡ 0
-      → Always bank.entries.apk_bank_track.Reads.Learnt (bankTrackEntry (λ block' index start long r'. block' ≡ block → count.after ≤ index → r' ≡ 34))))
-  pub no_bank : Always bank.entries.apk_bank_read.Reads.Learnt (bankReadEntry (λ block ranges count r. (r ≡ 0 → ⊥)
-      → Always bank.entries.apk_bank_track.Reads.Learnt (bankTrackEntry (λ block' index start long r'. block' ≡ block → r' ≡ r))))
+  pub none : Always bank.entries.apk_bank_read.Reads.Learnt (bank_read_entry (λ block ranges count r. r ≡ 0
+      → Always bank.entries.apk_bank_track.Reads.Learnt (bank_track_entry (λ block' index start long r'. block' ≡ block → count.after ≤ index → r' ≡ 34))))
+  pub no_bank : Always bank.entries.apk_bank_read.Reads.Learnt (bank_read_entry (λ block ranges count r. (r ≡ 0 → ⊥)
+      → Always bank.entries.apk_bank_track.Reads.Learnt (bank_track_entry (λ block' index start long r'. block' ≡ block → r' ≡ r))))
   -- `apk_bank_list` is what `apk_list_read` answers and leaves on those bytes by themselves
-  pub lists : Always bank.entries.apk_bank_track.Reads.Learnt (bankTrackEntry (λ block index start long r. r ≡ 0
-      → Always bank.entries.apk_bank_list.Reads.Learnt (bankListEntry (λ block' index' bits rows count place after padding r'. block' ≡ block → index' ≡ index
-      → Always loader_track.list_read.apk_list_read.Reads.Learnt (listReadEntry (λ bytes at running bits' rows' count' place' after' padding' r''.
+  pub lists : Always bank.entries.apk_bank_track.Reads.Learnt (bank_track_entry (λ block index start long r. r ≡ 0
+      → Always bank.entries.apk_bank_list.Reads.Learnt (bank_list_entry (λ block' index' bits rows count place after padding r'. block' ≡ block → index' ≡ index
+      → Always loader_track.list_read.apk_list_read.Reads.Learnt (list_read_entry (λ bytes at running bits' rows' count' place' after' padding' r''.
       bytes ≡ bytes_of block (record { start = start.after; length = long.after }) → at ≡ 0 → running ≡ 0 → bits' ≡ bits
       → rows'.before ≡ rows.before → count'.before ≡ count.before → place'.before ≡ place.before → after'.before ≡ after.before
       → padding'.before ≡ padding.before
       → (r' & rows.after & count.after & place.after & after.after & padding.after)
       ≡ (r'' & rows'.after & count'.after & place'.after & after'.after & padding'.after)))))))
-  pub no_track : Always bank.entries.apk_bank_track.Reads.Learnt (bankTrackEntry (λ block index start long r. (r ≡ 0 → ⊥)
-      → Always bank.entries.apk_bank_list.Reads.Learnt (bankListEntry (λ block' index' bits rows count place after padding r'.
+  pub no_track : Always bank.entries.apk_bank_track.Reads.Learnt (bank_track_entry (λ block index start long r. (r ≡ 0 → ⊥)
+      → Always bank.entries.apk_bank_list.Reads.Learnt (bank_list_entry (λ block' index' bits rows count place after padding r'.
       block' ≡ block → index' ≡ index → r' ≡ r))))
 
 -- what a block says, as numbers of four bytes, and behind them bytes

@@ -121,52 +121,52 @@ a & b = (a, b)
 
 module _ {ℓ} {X : Type ℓ} where
   -- `self.write_varlen(out, at)`, its answer, and what `out` holds at the end
-  abbrev pub writeVarlenCall : (u28 → List ℕ → ℕ → WroteNumber → List ℕ → X) → Shows write_varlen.Reads.Learnt X
-  writeVarlenCall show κs a r e = show (first a) (second a).now (third a) r (second e).now
+  abbrev pub write_varlen_call : (u28 → List ℕ → ℕ → WroteNumber → List ℕ → X) → Shows write_varlen.Reads.Learnt X
+  write_varlen_call show κs a r e = show (first a) (second a).now (third a) r (second e).now
 
   -- `write_varlen_slice(bytes, slice, out, at)`, its answer, and what `out` holds at the end
-  abbrev pub writeVarlenSliceCall : (List ℕ → Range → List ℕ → ℕ → WroteNumber → List ℕ → X) → Shows write_varlen_slice.Reads.Learnt X
-  writeVarlenSliceCall show κs a r e = show (first a).now (second a) (third a).now (fourth a) r (third e).now
+  abbrev pub write_varlen_slice_call : (List ℕ → Range → List ℕ → ℕ → WroteNumber → List ℕ → X) → Shows write_varlen_slice.Reads.Learnt X
+  write_varlen_slice_call show κs a r e = show (first a).now (second a) (third a).now (fourth a) r (third e).now
 
   -- `write_slice(bytes, slice, out, at)`, its answer, and what `out` holds at the end
-  abbrev pub writeSliceCall : (List ℕ → Range → List ℕ → ℕ → WroteNumber → List ℕ → X) → Shows write_slice.Reads.Learnt X
-  writeSliceCall show κs a r e = show (first a).now (second a) (third a).now (fourth a) r (third e).now
+  abbrev pub write_slice_call : (List ℕ → Range → List ℕ → ℕ → WroteNumber → List ℕ → X) → Shows write_slice.Reads.Learnt X
+  write_slice_call show κs a r e = show (first a).now (second a) (third a).now (fourth a) r (third e).now
 
   -- `read_row(raw, at, running, rules, row)`, its answer, and what `row` holds at the end
-  abbrev pub readRowCall : (List ℕ → ℕ → Running → Rules → List ℕ → ReadRow → List ℕ → X) → Shows read_row.Reads.Learnt X
-  readRowCall show κs a r e = show (first a).now (second a) (third a) (fourth a) (fifth a).now r (fifth e).now
+  abbrev pub read_row_call : (List ℕ → ℕ → Running → Rules → List ℕ → ReadRow → List ℕ → X) → Shows read_row.Reads.Learnt X
+  read_row_call show κs a r e = show (first a).now (second a) (third a) (fourth a) (fifth a).now r (fifth e).now
 
   -- `read_rows(raw, at, running, rules, cells)`, its answer, and what `cells` holds at the end
-  abbrev pub readRowsCall : (List ℕ → ℕ → Running → Rules → List ℕ → ReadRows → List ℕ → X) → Shows read_rows.Reads.Learnt X
-  readRowsCall show κs a r e = show (first a).now (second a) (third a) (fourth a) (fifth a).now r (fifth e).now
+  abbrev pub read_rows_call : (List ℕ → ℕ → Running → Rules → List ℕ → ReadRows → List ℕ → X) → Shows read_rows.Reads.Learnt X
+  read_rows_call show κs a r e = show (first a).now (second a) (third a) (fourth a) (fifth a).now r (fifth e).now
 
   -- `write_event(event, running, rules, bytes, out, at)`, its answer, and what `out` holds at the end
-  abbrev pub writeEventCall : (TrackEvent → Running → Rules → List ℕ → List ℕ → ℕ → WroteEvent → List ℕ → X) → Shows write_event_lem.Reads.Learnt X
-  writeEventCall show κs a r e = show (first a) (second a) (third a) (fourth a).now (fifth a).now (sixth a) r (fifth e).now
+  abbrev pub write_event_call : (TrackEvent → Running → Rules → List ℕ → List ℕ → ℕ → WroteEvent → List ℕ → X) → Shows write_event_lem.Reads.Learnt X
+  write_event_call show κs a r e = show (first a) (second a) (third a) (fourth a).now (fifth a).now (sixth a) r (fifth e).now
 
   -- `write_row(row, running, rules, bytes, out, at)`, its answer, and what `out` holds at the end
-  abbrev pub writeRowCall : (List ℕ → Running → Rules → List ℕ → List ℕ → ℕ → WroteEvent → List ℕ → X) → Shows write_row.Reads.Learnt X
-  writeRowCall show κs a r e = show (first a) (second a) (third a) (fourth a).now (fifth a).now (sixth a) r (fifth e).now
+  abbrev pub write_row_call : (List ℕ → Running → Rules → List ℕ → List ℕ → ℕ → WroteEvent → List ℕ → X) → Shows write_row.Reads.Learnt X
+  write_row_call show κs a r e = show (first a) (second a) (third a) (fourth a).now (fifth a).now (sixth a) r (fifth e).now
 
   -- `write_list(list, running, rules, bytes, out)`, its answer, and what `out` holds at the end
-  abbrev pub writeListCall : (EventList → Running → Rules → List ℕ → List ℕ → WroteList → List ℕ → X) → Shows write_list_lem.Reads.Learnt X
-  writeListCall show κs a r e = show (first a) (second a) (third a) (fourth a).now (fifth a).now r (fifth e).now
+  abbrev pub write_list_call : (EventList → Running → Rules → List ℕ → List ℕ → WroteList → List ℕ → X) → Shows write_list_lem.Reads.Learnt X
+  write_list_call show κs a r e = show (first a) (second a) (third a) (fourth a).now (fifth a).now r (fifth e).now
 
   -- `write_rows(rows, count, running, rules, bytes, out)`, its answer, and what `out` holds at the end
-  abbrev pub writeRowsCall : (List ℕ → ℕ → Running → Rules → List ℕ → List ℕ → WroteList → List ℕ → X) → Shows write_rows.Reads.Learnt X
-  writeRowsCall show κs a r e = show (first a).now (second a) (third a) (fourth a) (fifth a).now (sixth a).now r (sixth e).now
+  abbrev pub write_rows_call : (List ℕ → ℕ → Running → Rules → List ℕ → List ℕ → WroteList → List ℕ → X) → Shows write_rows.Reads.Learnt X
+  write_rows_call show κs a r e = show (first a).now (second a) (third a) (fourth a) (fifth a).now (sixth a).now r (sixth e).now
 
   -- `after(table, list, answer)`: its answer, a table, and the number that `answer` holds at the end
   abbrev pub after_call : (Table → EventList → Table → ℕ → X) → Shows after.Reads.Learnt X
   after_call show κs a r e = show (first a) (second a) r (third e).now
 
   -- `silence(table, channel, key, answer)`: its answer, a list, and the number that `answer` holds at the end
-  abbrev pub silenceCall : (Table → u4 → u7 → EventList → ℕ → X) → Shows silence.Reads.Learnt X
-  silenceCall show κs a r e = show (first a) (second a) (third a) r (fourth e).now
+  abbrev pub silence_call : (Table → u4 → u7 → EventList → ℕ → X) → Shows silence.Reads.Learnt X
+  silence_call show κs a r e = show (first a) (second a) (third a) r (fourth e).now
 
   -- `write_bank(bytes, ranges, count, out)`, its answer, and what `out` holds at the end
-  abbrev pub writeBankCall : (List ℕ → List Range → ℕ → List ℕ → WroteBank → List ℕ → X) → Shows write_bank_lem.Reads.Learnt X
-  writeBankCall show κs a r e = show (first a).now (second a) (third a) (fourth a).now r (fourth e).now
+  abbrev pub write_bank_call : (List ℕ → List Range → ℕ → List ℕ → WroteBank → List ℕ → X) → Shows write_bank_lem.Reads.Learnt X
+  write_bank_call show κs a r e = show (first a).now (second a) (third a) (fourth a).now r (fourth e).now
 
 -- Claims of every call
 
@@ -175,17 +175,17 @@ abbrev pub ReadU7 : (List ℕ → ℕ → Rules → ReadNumber → Type 0) → T
 ReadU7 Claim = Always read_u7.Reads.Learnt (λ κs a r e. Claim (first a).now (second a) (third a) r)
 
 abbrev pub WriteVarlen : (u28 → List ℕ → ℕ → WroteNumber → List ℕ → Type 0) → Type 0
-WriteVarlen Claim = Always write_varlen.Reads.Learnt (writeVarlenCall Claim)
+WriteVarlen Claim = Always write_varlen.Reads.Learnt (write_varlen_call Claim)
 
 -- `read_varlen_slice(raw, at, rules)`, and its answer
 abbrev pub ReadVarlenSlice : (List ℕ → ℕ → Rules → ReadSlice → Type 0) → Type 0
 ReadVarlenSlice Claim = Always read_varlen_slice.Reads.Learnt (λ κs a r e. Claim (first a).now (second a) (third a) r)
 
 abbrev pub WriteVarlenSlice : (List ℕ → Range → List ℕ → ℕ → WroteNumber → List ℕ → Type 0) → Type 0
-WriteVarlenSlice Claim = Always write_varlen_slice.Reads.Learnt (writeVarlenSliceCall Claim)
+WriteVarlenSlice Claim = Always write_varlen_slice.Reads.Learnt (write_varlen_slice_call Claim)
 
 abbrev pub WriteSlice : (List ℕ → Range → List ℕ → ℕ → WroteNumber → List ℕ → Type 0) → Type 0
-WriteSlice Claim = Always write_slice.Reads.Learnt (writeSliceCall Claim)
+WriteSlice Claim = Always write_slice.Reads.Learnt (write_slice_call Claim)
 
 -- `MetaMessage::read(raw, at, rules)`, and its answer
 abbrev pub MetaMessageRead : (List ℕ → ℕ → Rules → ReadMeta → Type 0) → Type 0
@@ -200,24 +200,24 @@ abbrev pub EventListRead : (List ℕ → ℕ → Running → Rules → ReadList 
 EventListRead Claim = Always read_list_lem.Reads.Learnt (λ κs a r e. Claim (first a).now (second a) (third a) (fourth a) r)
 
 abbrev pub WriteEvent : (TrackEvent → Running → Rules → List ℕ → List ℕ → ℕ → WroteEvent → List ℕ → Type 0) → Type 0
-WriteEvent Claim = Always write_event_lem.Reads.Learnt (writeEventCall Claim)
+WriteEvent Claim = Always write_event_lem.Reads.Learnt (write_event_call Claim)
 
 abbrev pub WriteRow : (List ℕ → Running → Rules → List ℕ → List ℕ → ℕ → WroteEvent → List ℕ → Type 0) → Type 0
-WriteRow Claim = Always write_row.Reads.Learnt (writeRowCall Claim)
+WriteRow Claim = Always write_row.Reads.Learnt (write_row_call Claim)
 
 -- `list_length(list, running, rules, bytes)`, and its answer
 abbrev pub ListLength : (EventList → Running → Rules → List ℕ → measured.ListLength → Type 0) → Type 0
 ListLength Claim = Always list_length.Reads.Learnt (λ κs a r e. Claim (first a) (second a) (third a) (fourth a).now r)
 
 abbrev pub WriteList : (EventList → Running → Rules → List ℕ → List ℕ → WroteList → List ℕ → Type 0) → Type 0
-WriteList Claim = Always write_list_lem.Reads.Learnt (writeListCall Claim)
+WriteList Claim = Always write_list_lem.Reads.Learnt (write_list_call Claim)
 
 -- `rows_length(rows, count, running, rules, bytes)`, and its answer
 abbrev pub RowsLength : (List ℕ → ℕ → Running → Rules → List ℕ → measured.ListLength → Type 0) → Type 0
 RowsLength Claim = Always rows_length.Reads.Learnt (λ κs a r e. Claim (first a).now (second a) (third a) (fourth a) (fifth a).now r)
 
 abbrev pub WriteRows : (List ℕ → ℕ → Running → Rules → List ℕ → List ℕ → WroteList → List ℕ → Type 0) → Type 0
-WriteRows Claim = Always write_rows.Reads.Learnt (writeRowsCall Claim)
+WriteRows Claim = Always write_rows.Reads.Learnt (write_rows_call Claim)
 
 -- `fresh()`: its answer
 abbrev pub Fresh : (Table → Type 0) → Type 0
@@ -231,7 +231,7 @@ abbrev pub After : (Table → EventList → Table → ℕ → Type 0) → Type 0
 After Claim = Always after.Reads.Learnt (after_call Claim)
 
 abbrev pub Silence : (Table → u4 → u7 → EventList → ℕ → Type 0) → Type 0
-Silence Claim = Always silence.Reads.Learnt (silenceCall Claim)
+Silence Claim = Always silence.Reads.Learnt (silence_call Claim)
 
 -- `read_bank(block)`, and its answer
 abbrev pub BankRead : (List ℕ → ReadBank → Type 0) → Type 0
@@ -246,8 +246,8 @@ abbrev pub ListTrack : (List ℕ → ℕ → Rules → ListedTrack → Type 0) �
 ListTrack Claim = Always list_track.Reads.Learnt (λ κs a r e. Claim (first a).now (second a) (third a) r)
 
 abbrev pub WriteBank : (List ℕ → List Range → ℕ → List ℕ → WroteBank → List ℕ → Type 0) → Type 0
-WriteBank Claim = Always write_bank_lem.Reads.Learnt (writeBankCall Claim)
+WriteBank Claim = Always write_bank_lem.Reads.Learnt (write_bank_call Claim)
 
 -- the same, of ranges that are a value of their type, as those of every call are: as many as a bank may have tracks
 abbrev pub WriteOwnedBank : (List ℕ → List Range → ℕ → List ℕ → WroteBank → List ℕ → Type 0) → Type 0
-WriteOwnedBank Claim = Always write_bank_lem.Reads.Learnt (λ κs a r e. GoodsP κs write_bank_lem.Kinds.ps a → writeBankCall Claim κs a r e)
+WriteOwnedBank Claim = Always write_bank_lem.Reads.Learnt (λ κs a r e. GoodsP κs write_bank_lem.Kinds.ps a → write_bank_call Claim κs a r e)

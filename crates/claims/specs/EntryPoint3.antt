@@ -13,7 +13,7 @@ use Rattle.rows.specs.RowLists.{rows_judged, called_rows}
 use Rattle.loader.specs.Entry.{from_bits}
 use Rattle.loader_track.proofs as loader_track
 use Rattle.claims.specs.Calls.{Always, Lent}
-use Rattle.claims.specs.EntryCalls.{eventWriteEntry, listReadEntry, listWriteEntry}
+use Rattle.claims.specs.EntryCalls.{event_write_entry, list_read_entry, list_write_entry}
 use Rattle.claims.specs.EntrySays.{entry_list_left}
 use Rattle.claims.specs.Point3.{Bytes, FitsAsBytes, ListWriteSays}
 
@@ -45,15 +45,15 @@ module _ (row payload : List ℕ) (running : ℕ) (own : List ℕ) where
 pub record EntryPoint3 : Type 0 where
   -- `apk_list_write`, of whatever its promise permits: accepted exactly when each row is a legal event and some bytes that fit the room read strictly as
   -- that list; what is written reads so and ends in the same running status, and no shorter bytes do
-  pub list_write : Always loader_track.list_write.apk_list_write.Reads.Learnt (listWriteEntry (λ rows count payload running bits out long after index r.
+  pub list_write : Always loader_track.list_write.apk_list_write.Reads.Learnt (list_write_entry (λ rows count payload running bits out long after index r.
       ListWriteSays (from_bits bits) capacity running (rows_judged (from_bits bits) payload count rows) count out.before (entry_list_left out long after index r)))
   -- and what fits is a byte string, where the payload bytes are bytes
-  pub bytes : Always loader_track.list_write.apk_list_write.Reads.Learnt (listWriteEntry (λ rows count payload running bits out long after index r.
+  pub bytes : Always loader_track.list_write.apk_list_write.Reads.Learnt (list_write_entry (λ rows count payload running bits out long after index r.
       r ≡ 0 → Bytes payload → FitsAsBytes (from_bits bits) capacity running (rows_judged (from_bits bits) payload count rows) count out.before))
   -- what it writes, `apk_list_read` reads strictly as the same list, and ends in the same running status
-  pub reads_back : Always loader_track.list_write.apk_list_write.Reads.Learnt (listWriteEntry (λ rows count payload running bits out long after index r.
-      r ≡ 0 → Always loader_track.list_read.apk_list_read.Reads.Learnt (listReadEntry (RowsAgain rows count payload running out long after))))
+  pub reads_back : Always loader_track.list_write.apk_list_write.Reads.Learnt (list_write_entry (λ rows count payload running bits out long after index r.
+      r ≡ 0 → Always loader_track.list_read.apk_list_read.Reads.Learnt (list_read_entry (RowsAgain rows count payload running out long after))))
   -- `apk_event_write`, twice from one running status, each time at any place of a buffer, and strictly or not: where the bytes of one event begin with
   -- those of the other, the events are the same, whatever bytes their payloads are in
-  pub prefix_free : Always loader_track.events.apk_event_write.Reads.Learnt (eventWriteEntry (λ row payload running bits out at next after r.
-      r ≡ 0 → Always loader_track.events.apk_event_write.Reads.Learnt (eventWriteEntry (RowNeverBegins row payload running (drop at (take next.after out.after))))))
+  pub prefix_free : Always loader_track.events.apk_event_write.Reads.Learnt (event_write_entry (λ row payload running bits out at next after r.
+      r ≡ 0 → Always loader_track.events.apk_event_write.Reads.Learnt (event_write_entry (RowNeverBegins row payload running (drop at (take next.after out.after))))))

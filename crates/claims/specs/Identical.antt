@@ -12,7 +12,7 @@ use Rattle.write.proofs as write
 use Rattle.same.proofs as same
 use Rattle.player.proofs as player
 use Rattle.bank.proofs as bank
-use Rattle.claims.specs.Calls.{OneAnswer, OneOutcome, writeVarlenCall, writeVarlenSliceCall, writeSliceCall, writeEventCall, writeRowCall, writeListCall, writeRowsCall, after_call, silenceCall, writeBankCall, ◌&◌}
+use Rattle.claims.specs.Calls.{OneAnswer, OneOutcome, write_varlen_call, write_varlen_slice_call, write_slice_call, write_event_call, write_row_call, write_list_call, write_rows_call, after_call, silence_call, write_bank_call, ◌&◌}
 
 -- `base`, `number`: restricted numbers, refusals, the running status, variable-length numbers and payloads
 pub record Numbers : Type 0 where
@@ -48,11 +48,11 @@ pub record Numbers : Type 0 where
   pub is_valid : OneAnswer base.Running.is_valid.Reads.Learnt
   pub read_u7 : OneAnswer number.u28.read_u7.Reads.Learnt
   pub varlen_length : OneAnswer number.u28.varlen_length.Reads.Learnt
-  pub write_varlen : OneOutcome number.u28.write_varlen.Reads.Learnt (writeVarlenCall (λ self out at r end. r & end))
+  pub write_varlen : OneOutcome number.u28.write_varlen.Reads.Learnt (write_varlen_call (λ self out at r end. r & end))
   pub read_varlen_slice : OneAnswer number.payload.read_varlen_slice.Reads.Learnt
-  pub write_varlen_slice : OneOutcome number.payload.write_varlen_slice.Reads.Learnt (writeVarlenSliceCall (λ bytes slice out at r end. r & end))
+  pub write_varlen_slice : OneOutcome number.payload.write_varlen_slice.Reads.Learnt (write_varlen_slice_call (λ bytes slice out at r end. r & end))
   pub is_inside : OneAnswer number.payload.is_inside.Reads.Learnt
-  pub write_slice : OneOutcome number.payload.write_slice.Reads.Learnt (writeSliceCall (λ bytes slice out at r end. r & end))
+  pub write_slice : OneOutcome number.payload.write_slice.Reads.Learnt (write_slice_call (λ bytes slice out at r end. r & end))
 
 -- `header`: `Format`, `Timing`, `Fps`, `SmpteTime`, and the words and signed bytes that they are made of
 pub record Headers : Type 0 where
@@ -100,9 +100,9 @@ pub record Events : Type 0 where
   pub meta_read : OneAnswer meta.MetaMessage.read.Reads.Learnt
   pub event_read : OneAnswer event.TrackEvent.read.Reads.Learnt
   pub event_length : OneAnswer write.one.event_length.Reads.Learnt
-  pub write_event_lem : OneOutcome write.one.write_event.Reads.Learnt (writeEventCall (λ event running rules bytes out at r end. r & end))
+  pub write_event_lem : OneOutcome write.one.write_event.Reads.Learnt (write_event_call (λ event running rules bytes out at r end. r & end))
   pub row_length : OneAnswer write.one.row_length.Reads.Learnt
-  pub write_row : OneOutcome write.one.write_row.Reads.Learnt (writeRowCall (λ row running rules bytes out at r end. r & end))
+  pub write_row : OneOutcome write.one.write_row.Reads.Learnt (write_row_call (λ row running rules bytes out at r end. r & end))
 
 -- `track`, `write`, `rows`, `same`: lists of events and of rows, an event as a row of numbers and back, and sameness
 pub record Lists : Type 0 where
@@ -111,9 +111,9 @@ pub record Lists : Type 0 where
   pub list_read : OneAnswer track.list.EventList.read.Reads.Learnt
   pub cursor_next : OneAnswer track.cursor.Cursor.next.Reads.Learnt
   pub list_length : OneAnswer write.records.list_length.Reads.Learnt
-  pub write_list_lem : OneOutcome write.records.write_list.Reads.Learnt (writeListCall (λ list running rules bytes out r end. r & end))
+  pub write_list_lem : OneOutcome write.records.write_list.Reads.Learnt (write_list_call (λ list running rules bytes out r end. r & end))
   pub rows_length : OneAnswer write.row_lists.rows_length.Reads.Learnt
-  pub write_rows : OneOutcome write.row_lists.write_rows.Reads.Learnt (writeRowsCall (λ rows count running rules bytes out r end. r & end))
+  pub write_rows : OneOutcome write.row_lists.write_rows.Reads.Learnt (write_rows_call (λ rows count running rules bytes out r end. r & end))
   pub kind_row : OneAnswer rows.kind_row.Reads.Learnt
   pub event_row : OneAnswer rows.event_row.Reads.Learnt
   pub are_bytes : OneAnswer rows.back.are_bytes.Reads.Learnt
@@ -129,14 +129,14 @@ pub record Notes : Type 0 where
   pub fresh : OneAnswer player.table.fresh.Reads.Learnt
   pub counts : OneAnswer player.table.counts.Reads.Learnt
   pub after : OneOutcome player.notes.after.Reads.Learnt (after_call (λ table list r answer. r & answer))
-  pub silence : OneOutcome player.silence.silence.Reads.Learnt (silenceCall (λ table channel key r answer. r & answer))
+  pub silence : OneOutcome player.silence.silence.Reads.Learnt (silence_call (λ table channel key r answer. r & answer))
 
 -- `bank`: a bank of programs, read and written, and its tracks, asked for and listed
 pub record Programs : Type 0 where
   pub read_bank_lem : OneAnswer bank.read.read_bank.Reads.Learnt
   pub bank_track_lem : OneAnswer bank.read.bank_track.Reads.Learnt
   pub list_track : OneAnswer bank.list.list_track.Reads.Learnt
-  pub write_bank_lem : OneOutcome bank.writing.write_bank.Reads.Learnt (writeBankCall (λ bytes ranges count out r end. r & end))
+  pub write_bank_lem : OneOutcome bank.writing.write_bank.Reads.Learnt (write_bank_call (λ bytes ranges count out r end. r & end))
 
 -- all of them
 pub record Identical : Type 0 where

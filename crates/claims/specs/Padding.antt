@@ -18,7 +18,7 @@ use Rattle.loader.specs.Entry.{from_bits}
 use Rattle.loader.proofs as loader
 use Rattle.loader_track.proofs as loader_track
 use Rattle.claims.specs.Calls.{Always, ReadU7, WriteVarlen, TrackEventRead, WriteEvent, EventListRead, WriteList}
-use Rattle.claims.specs.EntryCalls.{numberReadEntry, numberWriteEntry, eventReadEntry, eventWriteEntry, listReadEntry, listWriteEntry}
+use Rattle.claims.specs.EntryCalls.{number_read_entry, number_write_entry, event_read_entry, event_write_entry, list_read_entry, list_write_entry}
 use Rattle.claims.specs.Worked.{strict_rules, lenient_rules, span_from, no_status}
 use Rattle.claims.specs.Point3.{Bytes}
 use Rattle.claims.specs.SmfForms.{between}
@@ -123,28 +123,28 @@ pub record Padding : Type 0 where
 
 abbrev pub EntryShortestExactly : Type 0
 EntryShortestExactly =
-    Always loader.numbers.apk_number_read.Reads.Learnt (numberReadEntry (λ bytes at bits value next padding r.
+    Always loader.numbers.apk_number_read.Reads.Learnt (number_read_entry (λ bytes at bits value next padding r.
     r ≡ 0 → (from_bits bits).strict ≡ true → Bytes bytes → (padding.after ≡ 0) ↔ (between at next.after bytes ≡ encode_number value.after)))
 
 abbrev pub EntryNumberUnpadded : Type 0
 EntryNumberUnpadded =
-    Always loader.numbers.apk_number_write.Reads.Learnt (numberWriteEntry (λ value out at next r.
-    r ≡ 0 → Always loader.numbers.apk_number_read.Reads.Learnt (numberReadEntry (λ bytes at' bits value' next' padding r'.
+    Always loader.numbers.apk_number_write.Reads.Learnt (number_write_entry (λ value out at next r.
+    r ≡ 0 → Always loader.numbers.apk_number_read.Reads.Learnt (number_read_entry (λ bytes at' bits value' next' padding r'.
     (rest : List ℕ) → drop at' bytes ≡ between at next.after out.after ++ rest
     → (r' ≡ 0) × (value'.after ≡ value) × (padding.after ≡ 0)))))
 
 abbrev pub EntryEventUnpadded : Type 0
 EntryEventUnpadded =
-    Always loader_track.events.apk_event_write.Reads.Learnt (eventWriteEntry (λ row payload running bits out at next after r.
-    r ≡ 0 → Always loader_track.events.apk_event_read.Reads.Learnt (eventReadEntry (λ bytes at' running' bits' row' used after' padding r'.
+    Always loader_track.events.apk_event_write.Reads.Learnt (event_write_entry (λ row payload running bits out at next after r.
+    r ≡ 0 → Always loader_track.events.apk_event_read.Reads.Learnt (event_read_entry (λ bytes at' running' bits' row' used after' padding r'.
     (rest : List ℕ) → drop at' bytes ≡ between at next.after out.after ++ rest → running' ≡ running
     → strict_of (from_bits bits') ≡ strict_of (from_bits bits) → (r' ≡ 0) × (padding.after ≡ 0)))))
 
 -- a list, into cells enough for its rows
 abbrev pub EntryListUnpadded : Type 0
 EntryListUnpadded =
-    Always loader_track.list_write.apk_list_write.Reads.Learnt (listWriteEntry (λ rows count payload running bits out long after index r.
-    r ≡ 0 → Always loader_track.list_read.apk_list_read.Reads.Learnt (listReadEntry (λ bytes at running' bits' cells count' place after' padding r'.
+    Always loader_track.list_write.apk_list_write.Reads.Learnt (list_write_entry (λ rows count payload running bits out long after index r.
+    r ≡ 0 → Always loader_track.list_read.apk_list_read.Reads.Learnt (list_read_entry (λ bytes at running' bits' cells count' place after' padding r'.
     bytes ≡ take long.after out.after → at ≡ 0 → running' ≡ running → from_bits bits' ≡ strict_of (from_bits bits)
     → count * width ≤ length cells.before → padding.after ≡ 0))))
 

@@ -96,7 +96,7 @@ pub record ReadBack (raw : List ℕ) (r : ListHeld) (n after : ℕ) (bytes : Lis
 abbrev pub WriteOwnedList : (EventList → Running → base.Rules → List ℕ → List ℕ → WroteList → List ℕ → Type 0) → Type 0
 WriteOwnedList Claim =
     Always write_list_lem.Reads.Learnt
-    (λ κs a r e. GoodsP κs write_list_lem.Kinds.ps a → shown.writeListCall Claim κs a r e)
+    (λ κs a r e. GoodsP κs write_list_lem.Kinds.ps a → shown.write_list_call Claim κs a r e)
 
 -- a list that `write_list` wrote: what `EventList::read` reads of its bytes, by the same rules, strictly, and from the same running status
 module _ (list : EventList) (running : Running) (rules : base.Rules) (bytes : List ℕ) (w : ListWritten) (n : ℕ) where

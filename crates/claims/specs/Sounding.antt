@@ -17,8 +17,8 @@ use Rattle.player.specs.Notes.{table_after}
 use Rattle.player.specs.Widths.{all_within}
 use Rattle.player.specs.Entries.{table_in}
 use Rattle.player.proofs as player
-use Rattle.claims.specs.Calls.{Always, Some, silenceCall, EventListRead, Fresh, CountsOwned, After, Silence}
-use Rattle.claims.specs.EntryCalls.{soundingAfterEntry, soundingCountsEntry, soundingSilenceEntry}
+use Rattle.claims.specs.Calls.{Always, Some, silence_call, EventListRead, Fresh, CountsOwned, After, Silence}
+use Rattle.claims.specs.EntryCalls.{sounding_after_entry, sounding_counts_entry, sounding_silence_entry}
 
 -- the events that a list counts
 abbrev pub events_in : EventList → List (Event Span)
@@ -105,13 +105,13 @@ pub data InTurn (Given : ℕ → ℕ → List (Event Span) → Type 0) : (channe
 abbrev pub ListGiven : Table → ℕ → ℕ → List (Event Span) → Type 0
 ListGiven table channel key es =
     Some player.silence.silence.Reads.Learnt
-    (silenceCall (λ table' channel' key' list number. (table' ≡ table) × (channel'.0 ≡ channel) × (key'.0 ≡ key) × (number ≡ 0) × (events_in list ≡ es)))
+    (silence_call (λ table' channel' key' list number. (table' ≡ table) × (channel'.0 ≡ channel) × (key'.0 ≡ key) × (number ≡ 0) × (events_in list ≡ es)))
 
 -- events whose rows a call of `apk_sounding_silence` on a table handed out
 abbrev pub RowsGiven : List ℕ → ℕ → ℕ → List (Event Span) → Type 0
 RowsGiven table channel key es =
     Some player.entries.apk_sounding_silence.Reads.Learnt
-    (soundingSilenceEntry (λ table' channel' key' rows count r.
+    (sounding_silence_entry (λ table' channel' key' rows count r.
     (table' ≡ table) × (channel' ≡ channel) × (key' ≡ key) × (r ≡ 0) × (called_rows count.after rows.after ≡ es)))
 
 pub record Sounding : Type 1 where
@@ -120,14 +120,14 @@ pub record Sounding : Type 1 where
   pub many : After (λ table list left number. capacity < list.count → number ≡ 21)
   pub wide : After (λ table list left number. list.count ≤ capacity → all_within (events_in list) ≡ false → number ≡ 18)
   -- and so does `apk_sounding_after`, of rows that are events' all; by the same numbers, 18 for a row that is no event's too
-  pub entry_accepts : Always player.entries.apk_sounding_after.Reads.Learnt (soundingAfterEntry (λ rows count table r.
+  pub entry_accepts : Always player.entries.apk_sounding_after.Reads.Learnt (sounding_after_entry (λ rows count table r.
       (r ≡ 0) ↔ ((count ≤ capacity) × ((are_rows count rows && all_within (called_rows count rows)) ≡ true))))
-  pub entry_many : Always player.entries.apk_sounding_after.Reads.Learnt (soundingAfterEntry (λ rows count table r. capacity < count → r ≡ 21))
-  pub entry_wide : Always player.entries.apk_sounding_after.Reads.Learnt (soundingAfterEntry (λ rows count table r.
+  pub entry_many : Always player.entries.apk_sounding_after.Reads.Learnt (sounding_after_entry (λ rows count table r. capacity < count → r ≡ 21))
+  pub entry_wide : Always player.entries.apk_sounding_after.Reads.Learnt (sounding_after_entry (λ rows count table r.
       count ≤ capacity → (are_rows count rows && all_within (called_rows count rows)) ≡ false → r ≡ 18))
   -- what it leaves, where it accepts
   pub leaves : After (λ table list left number. number ≡ 0 → LeavesLast table (events_in list) left)
-  pub entry_leaves : Always player.entries.apk_sounding_after.Reads.Learnt (soundingAfterEntry (λ rows count table r. r ≡ 0
+  pub entry_leaves : Always player.entries.apk_sounding_after.Reads.Learnt (sounding_after_entry (λ rows count table r. r ≡ 0
       → LeavesLast (table_in table.before) (called_rows count rows) (table_in table.after)))
   -- of the definition, whatever the lists hold and whatever stands for a payload: two lists in turn equal their joined events
   pub joined : {P : Type 0} (table : Table) (es fs : List (Event P)) → table_after (table_after table es) fs ≡ table_after table (es ++ fs)
@@ -135,9 +135,9 @@ pub record Sounding : Type 1 where
   pub after_joined : After (λ table a left number. number ≡ 0 → After (λ table' b left' number'. table' ≡ left → number' ≡ 0
       → After (λ table'' c left'' number''. table'' ≡ table → Joins a b c → (number'' ≡ 0) × (left'' ≡ left'))))
   -- and of `apk_sounding_after`
-  pub entry_joined : Always player.entries.apk_sounding_after.Reads.Learnt (soundingAfterEntry (λ rowsA count_a tableA a. a ≡ 0
-      → Always player.entries.apk_sounding_after.Reads.Learnt (soundingAfterEntry (λ rowsB countB tableB b. tableB.before ≡ tableA.after → b ≡ 0
-      → Always player.entries.apk_sounding_after.Reads.Learnt (soundingAfterEntry (λ rowsC countC tableC c. tableC.before ≡ tableA.before
+  pub entry_joined : Always player.entries.apk_sounding_after.Reads.Learnt (sounding_after_entry (λ rowsA count_a tableA a. a ≡ 0
+      → Always player.entries.apk_sounding_after.Reads.Learnt (sounding_after_entry (λ rowsB countB tableB b. tableB.before ≡ tableA.after → b ≡ 0
+      → Always player.entries.apk_sounding_after.Reads.Learnt (sounding_after_entry (λ rowsC countC tableC c. tableC.before ≡ tableA.before
       → RowsJoin rowsA count_a rowsB countB rowsC countC → (c ≡ 0) × (tableC.after ≡ tableB.after)))))))
   -- a list whose events are legal is accepted, whatever the rules and the payload bytes are by which they are
   pub takes_legal : After (λ table list left number. (rules : Rules) (bytes : List ℕ) → Legal rules bytes list → number ≡ 0)
@@ -148,12 +148,12 @@ pub record Sounding : Type 1 where
   -- `silence` accepts exactly the channels and keys within their widths, and names what sounds from there on
   pub asks : Silence (λ table channel key list number. (number ≡ 0) ↔ ((channel.0 < 16) × (key.0 < 128)))
   -- and so does `apk_sounding_silence`, where there are cells for the rows: 18, then 20
-  pub entry_asks : Always player.entries.apk_sounding_silence.Reads.Learnt (soundingSilenceEntry (λ table channel key rows count r.
+  pub entry_asks : Always player.entries.apk_sounding_silence.Reads.Learnt (sounding_silence_entry (λ table channel key rows count r.
       (channel < 16) × (key < 128) → capacity * width ≤ length rows.before → r ≡ 0))
-  pub entry_unasked : Always player.entries.apk_sounding_silence.Reads.Learnt (soundingSilenceEntry (λ table channel key rows count r.
+  pub entry_unasked : Always player.entries.apk_sounding_silence.Reads.Learnt (sounding_silence_entry (λ table channel key rows count r.
       ((channel < 16) × (key < 128) → ⊥) → r ≡ 18))
   pub names : Silence (λ table channel key list number. number ≡ 0 → Names table channel.0 key.0 (events_in list))
-  pub entry_names : Always player.entries.apk_sounding_silence.Reads.Learnt (soundingSilenceEntry (λ table channel key rows count r. r ≡ 0
+  pub entry_names : Always player.entries.apk_sounding_silence.Reads.Learnt (sounding_silence_entry (λ table channel key rows count r. r ≡ 0
       → Names (table_in table) channel key (called_rows count.after rows.after)))
   -- the list that `silence` gives is legal by all rules, whatever the payload bytes are
   pub silence_legal : Silence (λ table channel key list number. (rules : Rules) (bytes : List ℕ) → Legal rules bytes list)
@@ -161,8 +161,8 @@ pub record Sounding : Type 1 where
   pub silences : Silence (λ table channel key list number. After (λ table' list' left number'. table' ≡ table → list' ≡ list
       → (number' ≡ 0) × Silenced table (events_in list) left))
   -- and of the entries: the rows that `apk_sounding_silence` hands out, given to `apk_sounding_after` with the same table
-  pub entry_silences : Always player.entries.apk_sounding_silence.Reads.Learnt (soundingSilenceEntry (λ table channel key rows count r. r ≡ 0
-      → Always player.entries.apk_sounding_after.Reads.Learnt (soundingAfterEntry (λ rows' count' table' r'.
+  pub entry_silences : Always player.entries.apk_sounding_silence.Reads.Learnt (sounding_silence_entry (λ table channel key rows count r. r ≡ 0
+      → Always player.entries.apk_sounding_after.Reads.Learnt (sounding_after_entry (λ rows' count' table' r'.
       rows' ≡ rows.after → count' ≡ count.after → table'.before ≡ table
       → (r' ≡ 0) × Silenced (table_in table) (called_rows count' rows') (table_in table'.after)))))
   -- with no more keys sounding than a list holds, the list from channel 0, key 0 leaves what `fresh` gives
@@ -170,12 +170,12 @@ pub record Sounding : Type 1 where
       → CountsOwned (λ table' sounding. table' ≡ table → sum ◌+◌ 0 sounding ≤ capacity
       → After (λ table'' list' left number'. table'' ≡ table → list' ≡ list → Fresh (λ none. left ≡ none))))
   -- and the rows from there leave the bytes of a fresh table, which are 0
-  pub entry_all_off : Always player.entries.apk_sounding_silence.Reads.Learnt (soundingSilenceEntry (λ table channel key rows count r. channel ≡ 0 → key ≡ 0 → r ≡ 0
-      → Always player.entries.apk_sounding_counts.Reads.Learnt (soundingCountsEntry (λ table' sounding r'. table' ≡ table → sum ◌+◌ 0 sounding.after ≤ capacity
-      → Always player.entries.apk_sounding_after.Reads.Learnt (soundingAfterEntry (λ rows' count' table'' r''.
+  pub entry_all_off : Always player.entries.apk_sounding_silence.Reads.Learnt (sounding_silence_entry (λ table channel key rows count r. channel ≡ 0 → key ≡ 0 → r ≡ 0
+      → Always player.entries.apk_sounding_counts.Reads.Learnt (sounding_counts_entry (λ table' sounding r'. table' ≡ table → sum ◌+◌ 0 sounding.after ≤ capacity
+      → Always player.entries.apk_sounding_after.Reads.Learnt (sounding_after_entry (λ rows' count' table'' r''.
       rows' ≡ rows.after → count' ≡ count.after → table''.before ≡ table → table''.after ≡ replicate places 0))))))
   -- silencing lists in turn, from channel 0, key 0, have in all as many events as `counts` says that keys sound
   pub counted : CountsOwned (λ table sounding. (many : ℕ) → InTurn (ListGiven table) 0 0 many → many ≡ sum ◌+◌ 0 sounding)
   -- and so have the rows
-  pub entry_counted : Always player.entries.apk_sounding_counts.Reads.Learnt (soundingCountsEntry (λ table sounding r.
+  pub entry_counted : Always player.entries.apk_sounding_counts.Reads.Learnt (sounding_counts_entry (λ table sounding r.
       (many : ℕ) → InTurn (RowsGiven table) 0 0 many → many ≡ sum ◌+◌ 0 sounding.after))

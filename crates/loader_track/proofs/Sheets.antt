@@ -8,10 +8,10 @@ use Rattle.rows.specs.Read.{SheetAt, sheet_at}
 
 -- what putting the rows of a list answered, by what reading it into cells did
 module _ (l : ListAt) where
-  pub rows-refused : (a : Answer ℕ) (n : ℕ) → refuses n ≡ and_then a (λ (k : ℕ). gives (sheet_at l)) → refuses n ≡ a
-  rows-refused (gives k) n e = let z : ◌≡◌ {A = ℕ} 0 1 = cc in absurd (omega arith)
-  rows-refused (refuses m) n e = cc
+  pub rows_refused : (a : Answer ℕ) (n : ℕ) → refuses n ≡ and_then a (λ (k : ℕ). gives (sheet_at l)) → refuses n ≡ a
+  rows_refused (gives k) n e = let z : ◌≡◌ {A = ℕ} 0 1 = cc in absurd (omega arith)
+  rows_refused (refuses m) n e = cc
 
-  pub rows-read : (a : Answer ℕ) (x : SheetAt) → gives x ≡ and_then a (λ (k : ℕ). gives (sheet_at l)) → (k : ℕ) × (gives k ≡ a) × (x ≡ sheet_at l)
-  rows-read (gives k) x e = (k, refl, cc)
-  rows-read (refuses m) x e = let z : ◌≡◌ {A = ℕ} 0 1 = cc in absurd (omega arith)
+  pub rows_read_lem : (a : Answer ℕ) (x : SheetAt) → gives x ≡ and_then a (λ (k : ℕ). gives (sheet_at l)) → (k : ℕ) × (gives k ≡ a) × (x ≡ sheet_at l)
+  rows_read_lem (gives k) x e = (k, refl, cc)
+  rows_read_lem (refuses m) x e = let z : ◌≡◌ {A = ℕ} 0 1 = cc in absurd (omega arith)

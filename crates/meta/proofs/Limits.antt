@@ -6,13 +6,13 @@ use native.Mathlib.Omega.{arith}
 use lib.Dec.{eqb}
 use Rattle.smf.specs.Answer.{pick, gives, and_then, Rules}
 use Rattle.smf.specs.Kind.{byte, from, narrow, midi_channel, midi_port, called_meta}
-use Rattle.smf.proofs.CalledAt.{form-channel, form-port}
+use Rattle.smf.proofs.CalledAt.{form_channel, form_port}
 use Rattle.meta.specs.Narrow.{Narrow, channel, port}
 
 pub form_narrow : {t limit : ℕ} → Narrow t limit → (rules : Rules) (p : List ℕ)
     → called_meta rules t p ≡ from 1 t p (and_then (narrow rules limit (byte p 0)) (λ c. gives (pick (eqb t 0x20) (midi_channel c) (midi_port c))))
-form_narrow channel = form-channel
-form_narrow port = form-port
+form_narrow channel = form_channel
+form_narrow port = form_port
 
 pub limit_some : {t limit : ℕ} → Narrow t limit → 0 < limit
 limit_some channel = omega arith

@@ -11,13 +11,13 @@ use Rattle.smf.specs.Place.{Span, inside}
 use Rattle.smf.proofs.Answer.{by-lt}
 
 module _ (bytes : List ℕ) (span : Span) where
-  pub inside-long : length bytes < span.length → false ≡ inside bytes span
+  pub inside_long : length bytes < span.length → false ≡ inside bytes span
   unfolding inside
-  inside-long h = sym (lt-leb (span.start + span.length) (length bytes) (omega arith))
+  inside_long h = sym (lt-leb (span.start + span.length) (length bytes) (omega arith))
 
-  pub inside-start : span.length ≤ length bytes → leb span.start (length bytes - span.length) ≡ inside bytes span
+  pub inside_start : span.length ≤ length bytes → leb span.start (length bytes - span.length) ≡ inside bytes span
   unfolding inside
-  inside-start h =
+  inside_start h =
       by-lt (length bytes) (span.start + span.length)
       (λ beyond. lt-leb span.start (length bytes - span.length) (omega arith) ∙ sym (lt-leb (span.start + span.length) (length bytes) beyond))
       (λ within. le-leb span.start (length bytes - span.length) (omega arith) ∙ sym (le-leb (span.start + span.length) (length bytes) within))

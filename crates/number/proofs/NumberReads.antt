@@ -12,7 +12,7 @@ use borrow.Author.Tests.{lt-ltb, le-ltb}
 use Rattle.smf.specs.Answer.{Answer, gives, refuses, Rules}
 use Rattle.smf.specs.Number.{joined, encode_number, Numeral, numeral, number_from, read_number}
 use Rattle.smf.specs.Place.{NumberAt, number_at}
-use Rattle.smf.proofs.Place.{Sited, site_begun, site_next, site_bounds, number_placed_lem, number-refused}
+use Rattle.smf.proofs.Place.{Sited, site_begun, site_next, site_bounds, number_placed_lem, number_refused}
 
 -- the bits leave room for k more groups of seven under 28 bits
 abbrev Room : ℕ → ℕ → Type 0
@@ -46,20 +46,20 @@ module _ {rules : Rules} {s : List ℕ} {at bits place k : ℕ} (w : Walking rul
   onward = site_bounds s at place w.site
 
   -- so the bits have room for another byte's
-  pub room-more : bits < 2 ^ 21
-  room-more = omega (arith, mul-le-mul_left (bits + 1) (pow-le-pow_right {n = 128} (omega arith) {i = 1} {j = k} (omega (arith, w.some))), w.room)
+  pub room_more : bits < 2 ^ 21
+  room_more = omega (arith, mul-le-mul_left (bits + 1) (pow-le-pow_right {n = 128} (omega arith) {i = 1} {j = k} (omega (arith, w.some))), w.room)
 
   -- the walk where the bytes end
   ended : length s ≤ place → read_number rules (drop at s) ≡ number_from rules (suc (k - 1)) bits []
   ended h = let n : k ≡ suc (k - 1) = omega (arith, w.some) in sym w.same ∙ rw (← n, drop_of_length-le s h)
 
-  pub cut-strict : length s ≤ place → rules.strict ≡ true → refuses 2 ≡ number_at rules s at
+  pub cut_strict : length s ≤ place → rules.strict ≡ true → refuses 2 ≡ number_at rules s at
   unfolding number_from
-  cut-strict h t = sym (number-refused rules s at (ended h ∙ rw t))
+  cut_strict h t = sym (number_refused rules s at (ended h ∙ rw t))
 
-  pub cut-lenient : length s ≤ place → rules.strict ≡ false → gives (found at bits place) ≡ number_at rules s at
+  pub cut_lenient : length s ≤ place → rules.strict ≡ false → gives (found at bits place) ≡ number_at rules s at
   unfolding number_from
-  cut-lenient h t = sym (number_placed_lem rules s at (ended h ∙ rw (t, drop_of_length-le s {i = place} h)) w.site)
+  cut_lenient h t = sym (number_placed_lem rules s at (ended h ∙ rw (t, drop_of_length-le s {i = place} h)) w.site)
 
   -- the walk at a byte
   at_byte : place < length s → read_number rules (drop at s) ≡ number_from rules (suc (k - 1)) bits (get_or s place 0 ∷ drop (place + 1) s)
@@ -74,18 +74,18 @@ module _ {rules : Rules} {s : List ℕ} {at bits place k : ℕ} (w : Walking rul
   unfolding number_from
   past h b = sym (at_byte h ∙ rw (le-ltb _ _ b))
 
-  pub fourth-strict : place < length s → 128 ≤ get_or s place 0 → k - 1 ≡ 0 → rules.strict ≡ true → refuses 3 ≡ number_at rules s at
+  pub fourth_strict : place < length s → 128 ≤ get_or s place 0 → k - 1 ≡ 0 → rules.strict ≡ true → refuses 3 ≡ number_at rules s at
   unfolding number_from
-  fourth-strict h b z t = sym (number-refused rules s at (sym (past h b) ∙ rw (z, t)))
+  fourth_strict h b z t = sym (number_refused rules s at (sym (past h b) ∙ rw (z, t)))
 
-  pub fourth-lenient : place < length s → 128 ≤ get_or s place 0 → k - 1 ≡ 0 → rules.strict ≡ false
+  pub fourth_lenient : place < length s → 128 ≤ get_or s place 0 → k - 1 ≡ 0 → rules.strict ≡ false
       → gives (found at (joined bits (get_or s place 0)) (place + 1)) ≡ number_at rules s at
   unfolding number_from
-  fourth-lenient h b z t = sym (number_placed_lem rules s at (sym (past h b) ∙ rw (z, t)) (site_next s at place h w.site))
+  fourth_lenient h b z t = sym (number_placed_lem rules s at (sym (past h b) ∙ rw (z, t)) (site_next s at place h w.site))
 
   pub more : place < length s → 128 ≤ get_or s place 0 → (k - 1 ≡ 0 → ⊥) → Walking rules s at (joined bits (get_or s place 0)) (place + 1) (k - 1)
   more h b z = record { some = omega arith; room = room_step bits (get_or s place 0 % 128) k w.some (omega arith) w.room; site = site_next s at place h w.site; same = past h b }
 
   -- and still 28 bits
-  pub room-now : (x : ℕ) → joined bits x < 2 ^ 28
-  room-now x = omega (arith, room-more)
+  pub room_now : (x : ℕ) → joined bits x < 2 ^ 28
+  room_now x = omega (arith, room_more)

@@ -28,17 +28,17 @@ set_front s bs p g h =
     rw (e, take-suc s p 0 (omega arith), append_assoc) (set_at (take p s) _ _ g p (length-take-le p s (omega arith)))
 
 module _ {s : List ℕ} {v at p high : ℕ} {out : List ℕ} (w : Putting s v at p high out) where
-  pub put-length : length out ≡ length s
-  put-length = rw w.list (simp (length-append, length-take, length-drop) (omega (arith, w.within)))
+  pub put_length : length out ≡ length s
+  put_length = rw w.list (simp (length-append, length-take, length-drop) (omega (arith, w.within)))
 
-  pub put-more : (high ≡ 0 → ⊥) → (at < p) × (p ≤ length s)
-  put-more z = more w.k w.fits w.here where
+  pub put_more : (high ≡ 0 → ⊥) → (at < p) × (p ≤ length s)
+  put_more z = more w.k w.fits w.here where
     more : (k : ℕ) → high < 128 ^ k → p ≡ at + length (ahead k high) → (at < p) × (p ≤ length s)
     more zero f h = absurd (omega arith)
     more (suc k) f h = (omega (arith, ahead_length k high z), omega (arith, w.within))
 
-  pub put-done : high ≡ 0 → out ≡ over (encode_number v) s at
-  put-done z =
+  pub put_done : high ≡ 0 → out ≡ over (encode_number v) s at
+  put_done z =
       let n = ahead_none w.k high z in
       let b : w.bs ≡ encode_number v = ap (λ (l : List ℕ). l ++ w.bs) (sym n) ∙ w.whole in
       let e : p ≡ at = omega (arith, w.here, ap length n) in
@@ -72,9 +72,9 @@ abbrev pub last_put : List ℕ → ℕ → ℕ → List ℕ
 last_put s v at = set s (at + length (encode_number v) - 1) (v % 128)
 
 module _ (s : List ℕ) (v at : ℕ) (h : at + length (encode_number v) ≤ length s) where
-  pub put-begun : v < 2 ^ 28 → Putting (last_put s v at) v at (at + length (encode_number v) - 1) (v / 128) (last_put s v at)
+  pub put_begun : v < 2 ^ 28 → Putting (last_put s v at) v at (at + length (encode_number v) - 1) (v / 128) (last_put s v at)
   unfolding encode_number
-  put-begun f =
+  put_begun f =
       let l = encode_length v in
       let q : at + length (encode_number v) - 1 < length s = omega arith in
       let e : length (last_put s v at) ≡ length s = length-set s _ _ in
@@ -93,5 +93,5 @@ module _ (s : List ℕ) (v at : ℕ) (h : at + length (encode_number v) ≤ leng
   pub put_ended : {p high : ℕ} {out : List ℕ} → Putting (last_put s v at) v at p high out → high ≡ 0 → out ≡ over (encode_number v) s at
   put_ended w z =
       let l = encode_length v in
-      put-done w z
+      put_done w z
       ∙ rw (take-set-le at s (at + length (encode_number v) - 1) (v % 128) (omega arith), drop-set-lt (at + length (encode_number v)) s (at + length (encode_number v) - 1) (v % 128) (omega arith))

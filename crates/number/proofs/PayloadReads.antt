@@ -7,7 +7,7 @@ use native.Mathlib.Omega.{arith}
 use lib.ListN.{length}
 use Rattle.smf.specs.Answer.{gives, refuses, Rules}
 use Rattle.smf.specs.Place.{number_at, payload_at}
-use Rattle.smf.proofs.Place.{payload_refused, payload-whole, payload-cut-strict, payload-cut-lenient}
+use Rattle.smf.proofs.Place.{payload_refused, payload_whole, payload_cut_strict, payload_cut_lenient}
 use Rattle.base.specs.Refusal.{number_of}
 use Rattle.number.specs.Varlen.{number_read_of}
 use Rattle.base.specs.declared.Refusal.{Refusal}
@@ -16,17 +16,17 @@ use Rattle.number.specs.declared.varlen.ReadNumber.{ReadNumber}
 use Rattle.number.specs.declared.varlen.ReadNumber.TheVariants.{Number, Refused}
 
 module _ (rules : Rules) (s : List ℕ) (at : ℕ) {r : ReadNumber} (read : number_read_of r ≡ number_at rules s at) where
-  pub slice-refused : {n : Refusal} → r ≡ Refused n → refuses (number_of n) ≡ payload_at rules s at
-  slice-refused e = sym (payload_refused rules s at (sym read ∙ ap number_read_of e))
+  pub slice_refused : {n : Refusal} → r ≡ Refused n → refuses (number_of n) ≡ payload_at rules s at
+  slice_refused e = sym (payload_refused rules s at (sym read ∙ ap number_read_of e))
 
   module _ {n : NumberAt} (e : r ≡ Number n) where
     pub slice-whole : {left : ℕ} → left ≡ length s - n.next → n.value.0 ≤ left → gives (record { span = record { start = n.next; length = n.value.0 }; padding = n.padding }) ≡ payload_at rules s at
-    slice-whole count h = sym (payload-whole rules s at _ (sym read ∙ ap number_read_of e) (omega arith))
+    slice-whole count h = sym (payload_whole rules s at _ (sym read ∙ ap number_read_of e) (omega arith))
 
     -- what is left there, as it was counted
     module _ {left : ℕ} (count : left ≡ length s - n.next) (h : left < n.value.0) where
       pub slice-cut-strict : rules.strict ≡ true → refuses 11 ≡ payload_at rules s at
-      slice-cut-strict t = sym (payload-cut-strict rules s at _ (sym read ∙ ap number_read_of e) (omega arith) t)
+      slice-cut-strict t = sym (payload_cut_strict rules s at _ (sym read ∙ ap number_read_of e) (omega arith) t)
 
       pub slice-cut-lenient : rules.strict ≡ false → gives (record { span = record { start = n.next; length = left }; padding = n.padding }) ≡ payload_at rules s at
-      slice-cut-lenient t = sym (payload-cut-lenient rules s at _ (sym read ∙ ap number_read_of e) (omega arith) t ∙ rw count)
+      slice-cut-lenient t = sym (payload_cut_lenient rules s at _ (sym read ∙ ap number_read_of e) (omega arith) t ∙ rw count)

@@ -28,8 +28,8 @@ module _ (vs : List ℕ) where
     pub few : n ≤ key
     pub left : n + sounding_count (drop key vs) ≡ sounding_count vs
 
-  pub counted-first : Counted 0 0
-  counted-first = record { within = omega arith; few = omega arith; left = omega arith }
+  pub counted_first : Counted 0 0
+  counted_first = record { within = omega arith; few = omega arith; left = omega arith }
 
   module _ {n key : ℕ} (c : Counted n key) where
     pub counted-all : length vs ≤ key → n ≡ sounding_count vs

@@ -12,7 +12,7 @@ use Rattle.smf.specs.Place.{Span}
 use Rattle.smf.specs.Event.{Event}
 use Rattle.smf.specs.Write.{over, put}
 use Rattle.smf.specs.Lists.{Held, holding}
-use Rattle.smf.proofs.Write.{put-fits, put_full}
+use Rattle.smf.proofs.Write.{put_fits, put_full}
 use Rattle.rows.specs.Rows.{width}
 use Rattle.rows.specs.RowLists.{are_rows, called_rows}
 use Rattle.rows.specs.Sheet.{sheet_of}
@@ -34,25 +34,25 @@ module _ {A E : Type 0} (other v : A) (f : E → A) (e : E) (n : ℕ) where
   abbrev Tested : Bool → Type 0
   Tested b = with_number v n ≡ beside other (and_then (unless b 18 (gives e)) (λ (x : E). gives (f x)))
 
-  was-given : (b : Bool) → Tested b → n ≡ 0 → (b ≡ true) × (v ≡ f e)
+  was_given : (b : Bool) → Tested b → n ≡ 0 → (b ≡ true) × (v ≡ f e)
   unfolding beside
-  was-given true h none = (refl, ap (λ (x : Beside A). x.value) h)
-  was-given false h none = absurd (omega (arith, ap (λ (x : Beside A). x.number) h))
+  was_given true h none = (refl, ap (λ (x : Beside A). x.value) h)
+  was_given false h none = absurd (omega (arith, ap (λ (x : Beside A). x.number) h))
 
-  was-refused : (b : Bool) → Tested b → (n ≡ 0 → ⊥) → (b ≡ false) × (n ≡ 18)
+  was_refused : (b : Bool) → Tested b → (n ≡ 0 → ⊥) → (b ≡ false) × (n ≡ 18)
   unfolding beside
-  was-refused true h some = absurd (some (ap (λ (x : Beside A). x.number) h))
-  was-refused false h some = (refl, ap (λ (x : Beside A). x.number) h)
+  was_refused true h some = absurd (some (ap (λ (x : Beside A). x.number) h))
+  was_refused false h some = (refl, ap (λ (x : Beside A). x.number) h)
 
 -- a list that holds these events: how many it counts, and what it counts
 module _ (most : ℕ) (es : List (Event Span)) (held : Held) (h : held ≡ holding most es) where
-  held-count : held.count ≡ length es
+  held_count : held.count ≡ length es
   unfolding holding
-  held-count = ap (λ (l : Held). l.count) h
+  held_count = ap (λ (l : Held). l.count) h
 
-  counted-held : take held.count held.records ≡ es
+  counted_held : take held.count held.records ≡ es
   unfolding holding
-  counted-held = rw h (take_at es _ (length es) refl)
+  counted_held = rw h (take_at es _ (length es) refl)
 
 -- `apk_sounding_after`
 
@@ -60,37 +60,37 @@ module _ (cap count : ℕ) (cells bytes : List ℕ) where
   abbrev Asked : Beside (List ℕ)
   Asked = bytes_beside bytes (rows_accepted cap cells count)
 
-  pub rows-many : cap < count → with_number bytes 21 ≡ Asked
+  pub rows_many : cap < count → with_number bytes 21 ≡ Asked
   unfolding rows_accepted beside
-  rows-many h = rw (lt-leb count cap h)
+  rows_many h = rw (lt-leb count cap h)
 
   module _ (few : count ≤ cap) (held : Held) (n : ℕ) (rows : with_number held n ≡ RowsTaken cap count cells) where
     pub rows_none : (n ≡ 0 → ⊥) → with_number bytes n ≡ Asked
     unfolding rows_accepted beside
     rows_none some =
-        let r = was-refused (holding cap []) held (holding cap) (called_rows count cells) n (are_rows count cells) rows some in
+        let r = was_refused (holding cap []) held (holding cap) (called_rows count cells) n (are_rows count cells) rows some in
         rw (le-leb count cap few, r.0, r.1)
 
     module _ (none : n ≡ 0) (t : Table) (m : ℕ) (played : with_number t m ≡ table_beside (table_in bytes) (accepted cap held.records held.count)) where
       given : (are_rows count cells ≡ true) × (held ≡ holding cap (called_rows count cells))
-      given = was-given (holding cap []) held (holding cap) (called_rows count cells) n (are_rows count cells) rows none
+      given = was_given (holding cap []) held (holding cap) (called_rows count cells) n (are_rows count cells) rows none
 
       answered : with_number t m ≡ table_beside (table_in bytes) (unless (all_within (called_rows count cells)) 18 (gives (called_rows count cells)))
       unfolding accepted
       answered =
-          let many : held.count ≤ cap = omega (arith, held-count cap (called_rows count cells) held given.1, records_length count cells) in
-          rw (le-leb held.count cap many, counted-held cap (called_rows count cells) held given.1) at played
+          let many : held.count ≤ cap = omega (arith, held_count cap (called_rows count cells) held given.1, records_length count cells) in
+          rw (le-leb held.count cap many, counted_held cap (called_rows count cells) held given.1) at played
 
       pub rows_above : (m ≡ 0 → ⊥) → with_number bytes m ≡ Asked
       unfolding rows_accepted beside
       rows_above some =
-          let r = was-refused (table_in bytes) t (table_after (table_in bytes)) (called_rows count cells) m (all_within (called_rows count cells)) answered some in
+          let r = was_refused (table_in bytes) t (table_after (table_in bytes)) (called_rows count cells) m (all_within (called_rows count cells)) answered some in
           rw (le-leb count cap few, given.0, r.0, r.1)
 
       pub rows-entered : m ≡ 0 → (end : List ℕ) → end ≡ bytes_in t → with_number end 0 ≡ Asked
       unfolding rows_accepted beside
       rows-entered ok end is =
-          let r = was-given (table_in bytes) t (table_after (table_in bytes)) (called_rows count cells) m (all_within (called_rows count cells)) answered ok in
+          let r = was_given (table_in bytes) t (table_after (table_in bytes)) (called_rows count cells) m (all_within (called_rows count cells)) answered ok in
           rw (le-leb count cap few, given.0, r.0, is, r.1)
 
 -- `apk_sounding_silence`
@@ -102,17 +102,17 @@ module _ (cap : ℕ) (t : Table) (channel key : ℕ) (held : Held) (n : ℕ) (sa
   abbrev Fits : Bool
   Fits = within 4 channel && within 7 key
 
-  pub silence-refused : (n ≡ 0 → ⊥) → (cells : List ℕ) → cells_left cells 0 n ≡ silence_left (silence cap t channel key) cells
+  pub silence_refused : (n ≡ 0 → ⊥) → (cells : List ℕ) → cells_left cells 0 n ≡ silence_left (silence cap t channel key) cells
   unfolding silence silence_left
-  silence-refused some cells = let r = was-refused (holding cap []) held (holding cap) off n Fits said some in rw (r.0, r.1)
+  silence_refused some cells = let r = was_refused (holding cap []) held (holding cap) off n Fits said some in rw (r.0, r.1)
 
   module _ (none : n ≡ 0) where
     silence-given : (Fits ≡ true) × (held ≡ holding cap off)
     unfolding silence
-    silence-given = was-given (holding cap []) held (holding cap) off n Fits said none
+    silence-given = was_given (holding cap []) held (holding cap) off n Fits said none
 
     silence-count : held.count ≡ length off
-    silence-count = held-count cap off held silence-given.1
+    silence-count = held_count cap off held silence-given.1
 
     pub silence-few : held.count ≤ cap
     silence-few = omega (arith, silence-count, silence_fits cap t (key_place channel key))
@@ -126,4 +126,4 @@ module _ (cap : ℕ) (t : Table) (channel key : ℕ) (held : Held) (n : ℕ) (sa
           → cells_left end held.count 0 ≡ silence_left (silence cap t channel key) cells
       unfolding silence silence_left
       silence-put h end is =
-          rw (silence-given.0, ← put-fits (sheet_of off) cells 0 (omega (arith, sheet_length off, silence-count)), is, counted-held cap off held silence-given.1, silence-count)
+          rw (silence-given.0, ← put_fits (sheet_of off) cells 0 (omega (arith, sheet_length off, silence-count)), is, counted_held cap off held silence-given.1, silence-count)

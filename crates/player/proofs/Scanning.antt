@@ -21,24 +21,24 @@ use Rattle.player.specs.Sounding.{sounding_of, sounding_from, note_off_at, silen
 -- One place on
 
 module _ (most : ℕ) (t : Table) (place : ℕ) where
-  sounding-on : place < places → sounding_from t place ≡ pick (eqb (velocity_at t place) 0) (sounding_from t (place + 1)) (place ∷ sounding_from t (place + 1))
+  sounding_on : place < places → sounding_from t place ≡ pick (eqb (velocity_at t place) 0) (sounding_from t (place + 1)) (place ∷ sounding_from t (place + 1))
   unfolding sounding_from sounding_of numbers_from
-  sounding-on more =
+  sounding_on more =
       let left : places - place ≡ suc (places - suc place) = omega arith in
       rw (add-one place, left)
 
-  silence-past : places ≤ place → silence_from most t place ≡ []
+  silence_past : places ≤ place → silence_from most t place ≡ []
   unfolding silence_from sounding_from sounding_of numbers_from
-  silence-past last = let none : places - place ≡ 0 = omega arith in rw (none, take-nil {A = ℕ} most)
+  silence_past last = let none : places - place ≡ 0 = omega arith in rw (none, take-nil {A = ℕ} most)
 
-  silence-silent : place < places → velocity_at t place ≡ 0 → silence_from most t place ≡ silence_from most t (place + 1)
+  silence_silent : place < places → velocity_at t place ≡ 0 → silence_from most t place ≡ silence_from most t (place + 1)
   unfolding silence_from
-  silence-silent more silent = ap (λ (ps : List ℕ). map note_off_at (take most ps)) (sounding-on more ∙ rw (eq-eqb (velocity_at t place) 0 silent))
+  silence_silent more silent = ap (λ (ps : List ℕ). map note_off_at (take most ps)) (sounding_on more ∙ rw (eq-eqb (velocity_at t place) 0 silent))
 
-  silence-sounding : place < places → (velocity_at t place ≡ 0 → ⊥) → silence_from (suc most) t place ≡ note_off_at place ∷ silence_from most t (place + 1)
+  silence_sounding : place < places → (velocity_at t place ≡ 0 → ⊥) → silence_from (suc most) t place ≡ note_off_at place ∷ silence_from most t (place + 1)
   unfolding silence_from
-  silence-sounding more sounds =
-      let on : sounding_from t place ≡ place ∷ sounding_from t (place + 1) = sounding-on more ∙ rw (ne_eqb (velocity_at t place) 0 sounds) in
+  silence_sounding more sounds =
+      let on : sounding_from t place ≡ place ∷ sounding_from t (place + 1) = sounding_on more ∙ rw (ne_eqb (velocity_at t place) 0 sounds) in
       ap (λ (ps : List ℕ). map note_off_at (take (suc most) ps)) on
 
 -- The scan
@@ -50,9 +50,9 @@ module _ (cap : ℕ) (t : Table) (from : ℕ) where
     pub few : n ≤ cap
     pub sofar : silence_from cap t from ≡ events ++ silence_from (cap - n) t place
 
-  pub scanned-first : (xs : List Record) (n : ℕ) → Holds cap xs n [] → Scanned xs n from
+  pub scanned_first : (xs : List Record) (n : ℕ) → Holds cap xs n [] → Scanned xs n from
   unfolding holding
-  scanned-first xs n h =
+  scanned_first xs n h =
       let none : n ≡ 0 = ap (λ (l : Held). l.count) h in
       record { events = []; held = h; few = omega arith; sofar = ap (λ (m : ℕ). silence_from m t from) (omega arith) }
 
@@ -65,11 +65,11 @@ module _ (cap : ℕ) (t : Table) (from : ℕ) where
         rw (s.sofar, none, append-nil s.events) s.held
 
     pub scanned-all : places ≤ place → Holds cap xs n (silence_from cap t from)
-    scanned-all last = rw (s.sofar, silence-past (cap - n) t place last, append-nil s.events) s.held
+    scanned-all last = rw (s.sofar, silence_past (cap - n) t place last, append-nil s.events) s.held
 
     pub scanned-silent : place < places → velocity_at t place ≡ 0 → Scanned xs n (place + 1)
     scanned-silent more silent =
-        record { events = s.events; held = s.held; few = s.few; sofar = s.sofar ∙ ap (◌++◌ s.events) (silence-silent (cap - n) t place more silent) }
+        record { events = s.events; held = s.held; few = s.few; sofar = s.sofar ∙ ap (◌++◌ s.events) (silence_silent (cap - n) t place more silent) }
 
     pub scanned-sounding : n < cap → place < places → (velocity_at t place ≡ 0 → ⊥) → (x : Record) → record_of x ≡ note_off_at place → Scanned (set xs n x) (n + 1) (place + 1)
     scanned-sounding room more sounds x is =
@@ -81,6 +81,6 @@ module _ (cap : ℕ) (t : Table) (from : ℕ) where
           sofar =
               s.sofar
               ∙ ap (λ (m : ℕ). s.events ++ silence_from m t place) left
-              ∙ ap (◌++◌ s.events) (silence-sounding (cap - (n + 1)) t place more sounds)
+              ∙ ap (◌++◌ s.events) (silence_sounding (cap - (n + 1)) t place more sounds)
               ∙ sym (append_assoc s.events (note_off_at place ∷ []) (silence_from (cap - (n + 1)) t (place + 1)));
         }

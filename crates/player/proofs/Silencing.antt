@@ -79,19 +79,19 @@ key_fits : (p : ℕ) → ltb (p % keys) 128 ≡ true
 key_fits p = lt-ltb (p % keys) 128 (place_key p)
 
 module _ (rules : Rules) (bytes : List ℕ) where
-  off-legal : (p : ℕ) → p < places → legal rules bytes (note_off_at p) ≡ gives (map_event (bytes_of bytes) (note_off_at p))
+  off_legal : (p : ℕ) → p < places → legal rules bytes (note_off_at p) ≡ gives (map_event (bytes_of bytes) (note_off_at p))
   unfolding legal kind_fits message_fits carries inside
-  off-legal p h = rw (channel_fits p h, key_fits p, le-leb 0 (length bytes) (omega arith))
+  off_legal p h = rw (channel_fits p h, key_fits p, le-leb 0 (length bytes) (omega arith))
 
-  offs-legal : (ps : List ℕ) → Placed ps → records_judged rules bytes (map note_off_at ps) ≡ map gives (map (map_event (bytes_of bytes)) (map note_off_at ps))
-  offs-legal [] h = refl
-  offs-legal (p ∷ ps) h = rw (off-legal p h.0, offs-legal ps h.1)
+  offs_legal : (ps : List ℕ) → Placed ps → records_judged rules bytes (map note_off_at ps) ≡ map gives (map (map_event (bytes_of bytes)) (map note_off_at ps))
+  offs_legal [] h = refl
+  offs_legal (p ∷ ps) h = rw (off_legal p h.0, offs_legal ps h.1)
 
   -- each is legal, by any rules and over any payload bytes, of which it has none
   pub silence_legal : (most : ℕ) (t : Table) (place : ℕ)
       → records_judged rules bytes (silence_from most t place) ≡ map gives (map (map_event (bytes_of bytes)) (silence_from most t place))
   unfolding silence_from
-  silence_legal most t place = offs-legal (silenced most t place) (placed most t place)
+  silence_legal most t place = offs_legal (silenced most t place) (placed most t place)
 
 -- The player takes it
 
@@ -193,6 +193,6 @@ module _ (most : ℕ) (t : Table) (few : length (sounding_from t 0) ≤ most) wh
       rw named)
       (same_or_other (entry t channel key) 0)
 
-  pub silence-fresh : table_after t (silence_from most t 0) ≡ fresh
+  pub silence_fresh : table_after t (silence_from most t 0) ≡ fresh
   unfolding table_after fresh silence_from
-  silence-fresh = table_same _ _ (λ c k hc hk. changed_silenced most t 0 c k ∙ rw (take_all most (sounding_from t 0) few) (all_off c k hc hk))
+  silence_fresh = table_same _ _ (λ c k hc hk. changed_silenced most t 0 c k ∙ rw (take_all most (sounding_from t 0) few) (all_off c k hc hk))

@@ -16,7 +16,7 @@ use Rattle.smf.proofs.Answer.{both}
 use Rattle.player.specs.Table.{channels, keys, Table, entry}
 use Rattle.player.specs.Notes.{Note, no_such_note, note, message_note, kind_note, stays, becomes, change_by, last_of, last_note, changed, table_after}
 use Rattle.player.specs.Widths.{within, message_within, kind_within, event_within, all_within}
-use Rattle.player.proofs.Tables.{Shaped, table_ext, table_of_entries, set_entry, shaped-set, entry-set-same, entry-set-key, entry-set-channel, same_or_other}
+use Rattle.player.proofs.Tables.{Shaped, table_ext, table_of_entries, set_entry, shaped_set, entry_set_same, entry_set_key, entry_set_channel, same_or_other}
 use Rattle.player.proofs.Joined.{shaped_after, entry_after, joined}
 
 -- a table with the entry of a note message changed
@@ -42,16 +42,16 @@ entry_noted h no_such_note i c k hc hk = refl
 entry_noted {t} h (note c' k' v) (note_inside hc' hk') c k hc hk =
     ⊎_elim
     (λ (ce : c' ≡ c). ⊎_elim
-    (λ (ke : k' ≡ k). rw (eq-eqb c' c ce, eq-eqb k' k ke, ← ce, ← ke) (sym (entry-set-same h c' k' v hc' hk')))
-    (λ (kn : k' ≡ k → ⊥). rw (eq-eqb c' c ce, ne_eqb k' k kn, ← ce) (sym (entry-set-key h c' k' v hc' hk' k (λ e. kn (sym e)))))
+    (λ (ke : k' ≡ k). rw (eq-eqb c' c ce, eq-eqb k' k ke, ← ce, ← ke) (sym (entry_set_same h c' k' v hc' hk')))
+    (λ (kn : k' ≡ k → ⊥). rw (eq-eqb c' c ce, ne_eqb k' k kn, ← ce) (sym (entry_set_key h c' k' v hc' hk' k (λ e. kn (sym e)))))
     (same_or_other k' k))
-    (λ (cn : c' ≡ c → ⊥). rw (ne_eqb c' c cn) (sym (entry-set-channel h c' k' v hc' hk' c k (λ e. cn (sym e)))))
+    (λ (cn : c' ≡ c → ⊥). rw (ne_eqb c' c cn) (sym (entry_set_channel h c' k' v hc' hk' c k (λ e. cn (sym e)))))
     (same_or_other c' c)
 
 shaped_noted : {t : Table} → Shaped t → (n : Note) → Inside n → Shaped (noted t n)
 unfolding noted
 shaped_noted h no_such_note i = h
-shaped_noted h (note c k v) (note_inside hc hk) = shaped-set h c k v hc hk
+shaped_noted h (note c k v) (note_inside hc hk) = shaped_set h c k v hc hk
 
 after_none : (P : Type 0) {t : Table} → Shaped t → table_after {P = P} t [] ≡ t
 unfolding table_after last_note
@@ -101,9 +101,9 @@ module _ {P : Type 0} (t : Table) (es : List (Event P)) (count : ℕ) where
     pub table : u ≡ table_after t (take index es)
     pub fits : all_within (take index es) ≡ true
 
-  pub played-first : Shaped t → Played 0 t
+  pub played_first : Shaped t → Played 0 t
   unfolding all_within
-  played-first h = record { passed = omega arith; table = sym (after_none P h); fits = refl }
+  played_first h = record { passed = omega arith; table = sym (after_none P h); fits = refl }
 
   module _ {index : ℕ} {u : Table} (p : Played index u) (d : Event P) (more : index < count) (there : count ≤ length es) where
     abbrev next : Event P

@@ -16,8 +16,8 @@ module _ (rule : ℕ → ℕ) (n : ℕ) where
     pub long : length xs ≡ n
     pub there : (k : ℕ) → k < i → get_or xs k 0 ≡ rule k
 
-  pub stored-first : Stored (replicate n 0) 0
-  stored-first = record { within = omega arith; long = length-replicate n 0; there = below_none _ }
+  pub stored_first : Stored (replicate n 0) 0
+  stored_first = record { within = omega arith; long = length-replicate n 0; there = below_none _ }
 
   module _ {xs : List ℕ} {i : ℕ} (s : Stored xs i) where
     pub stored_more : i < n → (v : ℕ) → v ≡ rule i → Stored (set xs i v) (i + 1)

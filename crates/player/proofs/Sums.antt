@@ -23,24 +23,24 @@ module _ (t : Table) (end : ℕ) where
   abbrev Behind : List ℕ → Type 0
   Behind ps = (j : ℕ) → j < length ps → drop (suc j) ps ≡ sounding_of t (numbers_from (suc (get_or ps j 0)) (end - suc (get_or ps j 0)))
 
-  behind-first : (i : ℕ) (ps : List ℕ) → ps ≡ sounding_of t (numbers_from (suc i) (end - suc i)) → Behind ps → Behind (i ∷ ps)
-  behind-first i ps e more zero h = e
-  behind-first i ps e more (suc j) h = more j (omega arith)
+  behind_first : (i : ℕ) (ps : List ℕ) → ps ≡ sounding_of t (numbers_from (suc i) (end - suc i)) → Behind ps → Behind (i ∷ ps)
+  behind_first i ps e more zero h = e
+  behind_first i ps e more (suc j) h = more j (omega arith)
 
-  behind-of : (i n : ℕ) → i + n ≡ end → Behind (sounding_of t (numbers_from i n))
+  behind_of : (i n : ℕ) → i + n ≡ end → Behind (sounding_of t (numbers_from i n))
   unfolding sounding_of numbers_from
-  behind-of i zero e = λ j h. absurd (omega arith)
-  behind-of i (suc n) e =
-      let more : Behind (sounding_of t (numbers_from (suc i) n)) = behind-of (suc i) n (omega arith) in
+  behind_of i zero e = λ j h. absurd (omega arith)
+  behind_of i (suc n) e =
+      let more : Behind (sounding_of t (numbers_from (suc i) n)) = behind_of (suc i) n (omega arith) in
       let left : n ≡ end - suc i = omega arith in
       pick_test Behind (eqb (velocity_at t i) 0) (λ z. more)
-      (λ z. behind-first i (sounding_of t (numbers_from (suc i) n)) (ap (λ (m : ℕ). sounding_of t (numbers_from (suc i) m)) left) more)
+      (λ z. behind_first i (sounding_of t (numbers_from (suc i) n)) (ap (λ (m : ℕ). sounding_of t (numbers_from (suc i) m)) left) more)
 
 -- what sounds behind the place of a given index is what is left of the places that sound
 pub behind : (t : Table) (place j : ℕ) → place ≤ places → j < length (sounding_from t place)
     → drop (suc j) (sounding_from t place) ≡ sounding_from t (suc (get_or (sounding_from t place) j 0))
 unfolding sounding_from
-behind t place j h = behind-of t places place (places - place) (omega arith) j
+behind t place j h = behind_of t places place (places - place) (omega arith) j
 
 -- Lists in turn
 
@@ -85,8 +85,8 @@ no_numbers i = refl
 
 module _ {t : Table} (h : Shaped t) where
   -- the entries at the places of a channel are its row
-  row-velocities : (c : ℕ) → c < channels → map (velocity_at t) (numbers_from (c * keys) keys) ≡ get_or t c []
-  row-velocities c hc =
+  row_velocities : (c : ℕ) → c < channels → map (velocity_at t) (numbers_from (c * keys) keys) ≡ get_or t c []
+  row_velocities c hc =
       let own = map (velocity_at t) (numbers_from (c * keys) keys) in
       let long : length own ≡ keys = length-map (numbers_from (c * keys) keys) (velocity_at t) ∙ length_numbers (c * keys) keys in
       ext_get_or 0 own (get_or t c []) (long ∙ sym (h.row c hc))
@@ -95,18 +95,18 @@ module _ {t : Table} (h : Shaped t) where
       mapped (velocity_at t) (c * keys) keys k 0 key ∙ velocity_at_lem t c k key)
 
   -- from a channel on
-  counts-from : (m c : ℕ) → c + m ≡ channels → sounding_count (map (velocity_at t) (numbers_from (c * keys) (m * keys))) ≡ sum ◌+◌ 0 (map sounding_count (drop c t))
+  counts_from : (m c : ℕ) → c + m ≡ channels → sounding_count (map (velocity_at t) (numbers_from (c * keys) (m * keys))) ≡ sum ◌+◌ 0 (map sounding_count (drop c t))
   unfolding sum sounding_count
-  counts-from zero c e = rw (no_numbers (c * keys), drop_of_length-le t {i = c} (omega (arith, h.rows)))
-  counts-from (suc m) c e =
+  counts_from zero c e = rw (no_numbers (c * keys), drop_of_length-le t {i = c} (omega (arith, h.rows)))
+  counts_from (suc m) c e =
       let long : suc m * keys ≡ keys + m * keys = omega arith in
       let next : c * keys + keys ≡ suc c * keys = omega arith in
       let split : numbers_from (c * keys) (suc m * keys) ≡ numbers_from (c * keys) keys ++ numbers_from (suc c * keys) (m * keys) = rw long (rw numbers_append (rw next refl)) in
       let there : c < length t = omega (arith, h.rows) in
-      rw (split, map-append (velocity_at t) (numbers_from (c * keys) keys), count_append, row-velocities c (omega arith), drop-cons t c [] there)
-      (ap (λ (n : ℕ). sounding_count (get_or t c []) + n) (counts-from m (suc c) (omega arith)))
+      rw (split, map-append (velocity_at t) (numbers_from (c * keys) keys), count_append, row_velocities c (omega arith), drop-cons t c [] there)
+      (ap (λ (n : ℕ). sounding_count (get_or t c []) + n) (counts_from m (suc c) (omega arith)))
 
   -- the counts of the channels in all are as many as the places that sound
-  pub counts-sum : sum ◌+◌ 0 (counts t) ≡ length (sounding_from t 0)
+  pub counts_sum : sum ◌+◌ 0 (counts t) ≡ length (sounding_from t 0)
   unfolding counts sounding_from
-  counts-sum = sym (sounding_length t (numbers_from 0 places) ∙ counts-from channels 0 refl)
+  counts_sum = sym (sounding_length t (numbers_from 0 places) ∙ counts_from channels 0 refl)

@@ -89,8 +89,8 @@ module _ {t : Table} (h : Shaped t) (c k v : ℕ) (hc : c < channels) (hk : k < 
   other_row : (c' : ℕ) → (c' ≡ c → ⊥) → get_or (set_entry t c k v) c' [] ≡ get_or t c' []
   other_row c' other = get_or-set_other t c c' (set (get_or t c []) k v) [] other
 
-  pub shaped-set : Shaped (set_entry t c k v)
-  shaped-set =
+  pub shaped_set : Shaped (set_entry t c k v)
+  shaped_set =
       record {
         rows = length-set t c (set (get_or t c []) k v) ∙ h.rows;
         row = λ c' hc'. ⊎_elim
@@ -99,12 +99,12 @@ module _ {t : Table} (h : Shaped t) (c k v : ℕ) (hc : c < channels) (hk : k < 
             (same_or_other c' c);
       }
 
-  pub entry-set-same : entry (set_entry t c k v) c k ≡ v
-  entry-set-same = ap (λ (row : List ℕ). get_or row k 0) changed_row ∙ get_or-set_same (get_or t c []) k v 0 (rw (h.row c hc) hk)
+  pub entry_set_same : entry (set_entry t c k v) c k ≡ v
+  entry_set_same = ap (λ (row : List ℕ). get_or row k 0) changed_row ∙ get_or-set_same (get_or t c []) k v 0 (rw (h.row c hc) hk)
 
   -- another key of the channel, or another channel
-  pub entry-set-key : (k' : ℕ) → (k' ≡ k → ⊥) → entry (set_entry t c k v) c k' ≡ entry t c k'
-  entry-set-key k' other = ap (λ (row : List ℕ). get_or row k' 0) changed_row ∙ get_or-set_other (get_or t c []) k k' v 0 other
+  pub entry_set_key : (k' : ℕ) → (k' ≡ k → ⊥) → entry (set_entry t c k v) c k' ≡ entry t c k'
+  entry_set_key k' other = ap (λ (row : List ℕ). get_or row k' 0) changed_row ∙ get_or-set_other (get_or t c []) k k' v 0 other
 
-  pub entry-set-channel : (c' k' : ℕ) → (c' ≡ c → ⊥) → entry (set_entry t c k v) c' k' ≡ entry t c' k'
-  entry-set-channel c' k' other = ap (λ (row : List ℕ). get_or row k' 0) (other_row c' other)
+  pub entry_set_channel : (c' k' : ℕ) → (c' ≡ c → ⊥) → entry (set_entry t c k v) c' k' ≡ entry t c' k'
+  entry_set_channel c' k' other = ap (λ (row : List ℕ). get_or row k' 0) (other_row c' other)

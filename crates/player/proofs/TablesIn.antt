@@ -7,8 +7,8 @@ use borrow.Author.Count.{below_none, below_more}
 use lib.ListN.{get_or}
 use Rattle.player.specs.Table.{keys, Table, entry, places, key_place, velocity_at}
 use Rattle.player.specs.Entries.{table_in}
-use Rattle.player.proofs.Tables.{Shaped, shaped_of, entry_of, table_ext, shaped-set}
-use Rattle.player.proofs.Places.{place_channel, place_key, place_within, velocity_at_lem, setPlace, velocity-set-same, velocity-set-other}
+use Rattle.player.proofs.Tables.{Shaped, shaped_of, entry_of, table_ext, shaped_set}
+use Rattle.player.proofs.Places.{place_channel, place_key, place_within, velocity_at_lem, set_place, velocity_set_same, velocity_set_other}
 
 module _ (bytes : List ℕ) where
   pub record Filled (t : Table) (place : ℕ) : Type 0 where
@@ -16,17 +16,17 @@ module _ (bytes : List ℕ) where
     pub shaped : Shaped t
     pub there : (p : ℕ) → p < place → velocity_at t p ≡ get_or bytes p 0
 
-  pub filled-first : {t : Table} → Shaped t → Filled t 0
-  filled-first h = record { within = omega arith; shaped = h; there = below_none _ }
+  pub filled_first : {t : Table} → Shaped t → Filled t 0
+  filled_first h = record { within = omega arith; shaped = h; there = below_none _ }
 
   module _ {t : Table} {place : ℕ} (f : Filled t place) where
-    pub filled_more : (more : place < places) → Filled (setPlace f.shaped place (get_or bytes place 0) more) (place + 1)
+    pub filled_more : (more : place < places) → Filled (set_place f.shaped place (get_or bytes place 0) more) (place + 1)
     filled_more more =
         let v = get_or bytes place 0 in
         record {
           within = omega arith;
-          shaped = shaped-set f.shaped (place / keys) (place % keys) v (place_channel place more) (place_key place);
-          there = below_more _ place (λ p h. velocity-set-other f.shaped place v more p (λ (e : p ≡ place). omega arith) ∙ f.there p h) (velocity-set-same f.shaped place v more);
+          shaped = shaped_set f.shaped (place / keys) (place % keys) v (place_channel place more) (place_key place);
+          there = below_more _ place (λ p h. velocity_set_other f.shaped place v more p (λ (e : p ≡ place). omega arith) ∙ f.there p h) (velocity_set_same f.shaped place v more);
         }
 
     pub filled-all : places ≤ place → t ≡ table_in bytes

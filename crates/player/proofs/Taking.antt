@@ -15,7 +15,7 @@ use Rattle.track.proofs.Held.{Holds, holds_none, holds_more}
 use Rattle.rows.specs.Rows.{width}
 use Rattle.rows.specs.RowEvent.{is_row, called_row}
 use Rattle.rows.specs.RowLists.{are_rows, called_rows}
-use Rattle.rows.proofs.RowsOn.{Looked, looked_first, looked-none, looked-more, looked-last, records-on}
+use Rattle.rows.proofs.RowsOn.{Looked, looked_first, looked_none, looked_more, looked_last, records_on}
 use Rattle.player.specs.Answers.{Beside, with_number, beside, list_beside}
 
 module _ (cap count : ℕ) (cells : List ℕ) where
@@ -30,8 +30,8 @@ module _ (cap count : ℕ) (cells : List ℕ) where
     pub held : Holds cap xs (count - left) events
     pub sofar : called_rows count cells ≡ events ++ called_rows left (drop at cells)
 
-  pub taking-first : (xs : List Record) (n : ℕ) → Holds cap xs n [] → Taking xs 0 count
-  taking-first xs n h =
+  pub taking_first : (xs : List Record) (n : ℕ) → Holds cap xs n [] → Taking xs 0 count
+  taking_first xs n h =
       let none : 0 ≡ count - count = omega arith in
       record {
         looked = looked_first count cells;
@@ -44,7 +44,7 @@ module _ (cap count : ℕ) (cells : List ℕ) where
   module _ {xs : List Record} {at left : ℕ} (g : Taking xs at left) where
     pub taking-none : 0 < left → is_row (take width (drop at cells)) ≡ false → with_number (holding cap []) 18 ≡ RowsTaken
     unfolding beside
-    taking-none more h = rw (sym (looked-none g.looked more h))
+    taking-none more h = rw (sym (looked_none g.looked more h))
 
     called-all : left ≤ 0 → called_rows count cells ≡ g.events
     unfolding called_rows
@@ -56,20 +56,20 @@ module _ (cap count : ℕ) (cells : List ℕ) where
     unfolding beside
     taking-all last =
         let every : count - left ≡ count = omega arith in
-        rw (← looked-last g.looked last, called-all last, ← g.held, every)
+        rw (← looked_last g.looked last, called-all last, ← g.held, every)
 
     pub taking-more : 0 < left → count ≤ cap → is_row (take width (drop at cells)) ≡ true → (x : Record) → called_row (take width (drop at cells)) ≡ record_of x
         → Taking (set xs (count - left) x) (at + width) (left - 1)
     taking-more more cap-holds h x is =
         let on : (count - left) + 1 ≡ count - (left - 1) = omega (arith, g.few) in
         record {
-          looked = looked-more g.looked more h;
+          looked = looked_more g.looked more h;
           few = omega (arith, g.few);
           events = g.events ++ (record_of x ∷ []);
           held = subst (λ (k : ℕ). Holds cap (set xs (count - left) x) k (g.events ++ (record_of x ∷ []))) on (holds_more cap xs (count - left) g.events x (omega (arith, g.few)) g.held);
           sofar =
               g.sofar
-              ∙ ap (◌++◌ g.events) (records-on cells at more)
+              ∙ ap (◌++◌ g.events) (records_on cells at more)
               ∙ ap (λ (e : Event Span). g.events ++ (e ∷ called_rows (left - 1) (drop (at + width) cells))) is
               ∙ sym (append_assoc g.events (record_of x ∷ []) (called_rows (left - 1) (drop (at + width) cells)));
         }

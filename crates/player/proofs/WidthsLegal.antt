@@ -61,21 +61,21 @@ passed true n a x h = refl
 passed false n a x h = let z : ◌≡◌ {A = ℕ} 0 1 = cc in absurd (omega arith)
 
 module _ (rules : Rules) (bytes : List ℕ) where
-  pub legal-within : (e : Event Span) (l : Event (List ℕ)) → legal rules bytes e ≡ gives l → event_within e ≡ true
+  pub legal_within : (e : Event Span) (l : Event (List ℕ)) → legal rules bytes e ≡ gives l → event_within e ≡ true
   unfolding legal
-  legal-within e l h = fits_within rules e (passed (ltb e.delta (2 ^ 28) && kind_fits rules e.kind) 18 _ l h)
+  legal_within e l h = fits_within rules e (passed (ltb e.delta (2 ^ 28) && kind_fits rules e.kind) 18 _ l h)
 
   -- so many records that are legal
-  pub all-legal-within : (count : ℕ) (records : List (Event Span)) (es : List (Event (List ℕ))) → take count (records_judged rules bytes records) ≡ map gives es
+  pub all_legal_within : (count : ℕ) (records : List (Event Span)) (es : List (Event (List ℕ))) → take count (records_judged rules bytes records) ≡ map gives es
       → all_within (take count records) ≡ true
   unfolding all_within
-  all-legal-within zero records es h = refl
-  all-legal-within (suc n) [] es h = refl
-  all-legal-within (suc n) (r ∷ rs) [] h = absurd (omega (arith, ap length h))
-  all-legal-within (suc n) (r ∷ rs) (e ∷ es) h =
+  all_legal_within zero records es h = refl
+  all_legal_within (suc n) [] es h = refl
+  all_legal_within (suc n) (r ∷ rs) [] h = absurd (omega (arith, ap length h))
+  all_legal_within (suc n) (r ∷ rs) (e ∷ es) h =
       let q : legal rules bytes r ≡ gives e = cc in
       let behind : take n (records_judged rules bytes rs) ≡ map gives es = cc in
-      rw (legal-within r e q) (all-legal-within n rs es behind)
+      rw (legal_within r e q) (all_legal_within n rs es behind)
 
 -- What is read is legal: payloads by their places are within as those by their bytes
 

@@ -8,7 +8,7 @@ use lib.Seq.{take_at}
 use Rattle.smf.specs.Answer.{Answer, gives, refuses}
 use Rattle.smf.specs.Write.{over}
 use Rattle.smf.specs.Lists.{ListAt}
-use Rattle.smf.proofs.Write.{put-fits, put_full}
+use Rattle.smf.proofs.Write.{put_fits, put_full}
 use Rattle.rows.specs.Rows.{width}
 use Rattle.rows.specs.Sheet.{sheet_of}
 use Rattle.rows.specs.Read.{SheetAt, SheetRead, sheet_at, read_sheet}
@@ -19,13 +19,13 @@ module _ (l : ListAt) (before own : List ℕ) (x : SheetAt) (room : length l.eve
   sheet = sheet_of l.events
 
   laid : ◌≡◌ {A = SheetRead} (record { cells = own; answer = gives x }) (record { cells = over sheet before 0; answer = gives (sheet_at l) })
-  laid = rw (← put-fits sheet before 0 (omega (arith, sheet_length l.events))) at e
+  laid = rw (← put_fits sheet before 0 (omega (arith, sheet_length l.events))) at e
 
   answered : x ≡ sheet_at l
   answered = let a : gives x ≡ gives (sheet_at l) = ap (λ (s : SheetRead). s.answer) laid in cc
 
-  pub few-laid : x.count ≡ length l.events
-  few-laid = ap (λ (s : SheetAt). s.count) answered
+  pub few_laid : x.count ≡ length l.events
+  few_laid = ap (λ (s : SheetAt). s.count) answered
 
   size : x.count * width ≡ length sheet
   size = ap (λ (s : SheetAt). s.count * width) answered ∙ omega (arith, sheet_length l.events)
@@ -34,7 +34,7 @@ module _ (l : ListAt) (before own : List ℕ) (x : SheetAt) (room : length l.eve
   first = ap (λ (s : SheetRead). take (x.count * width) s.cells) laid ∙ rw size (take_at sheet (drop (0 + length sheet) before) (length sheet) refl)
 
   pub fitted : (rows : List ℕ) → x.count * width ≤ length rows → record { cells = over (take (x.count * width) own) rows 0; answer = gives x } ≡ read_sheet l rows
-  fitted rows h = rw (first, answered, ← put-fits sheet rows 0 (omega (arith, size)))
+  fitted rows h = rw (first, answered, ← put_fits sheet rows 0 (omega (arith, size)))
 
   pub short : (rows : List ℕ) → length rows < x.count * width → record { cells = rows; answer = refuses 20 } ≡ read_sheet l rows
   short rows h = rw (← put_full sheet rows 0 (omega (arith, size)))

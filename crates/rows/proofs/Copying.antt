@@ -18,8 +18,8 @@ module _ (cells : List ℕ) (at : ℕ) where
     pub within : i ≤ width
     pub front : row ≡ paste noughts 0 (drop at cells) i
 
-  pub copied-first : Copied noughts 0
-  copied-first = record { within = omega arith; front = paste-zero noughts 0 (drop at cells) }
+  pub copied_first : Copied noughts 0
+  copied_first = record { within = omega arith; front = paste-zero noughts 0 (drop at cells) }
 
   module _ (there : at + width ≤ length cells) {row : List ℕ} {i : ℕ} (c : Copied row i) where
     abbrev from : List ℕ

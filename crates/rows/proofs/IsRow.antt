@@ -15,9 +15,9 @@ use Rattle.rows.specs.RowEvent.{fields_fit, cell, is_row, called_row, event_of_r
 
 module _ (r : List ℕ) (l : length r ≡ width) where
   -- its delta is no number of 32 bits
-  pub delta-above : 2 ^ 32 ≤ cell r 0 → refuses 18 ≡ event_of_row r
+  pub delta_above : 2 ^ 32 ≤ cell r 0 → refuses 18 ≡ event_of_row r
   unfolding event_of_row is_row
-  delta-above h = rw (le-leb width (length r) (omega arith), le-ltb (cell r 0) (2 ^ 32) h)
+  delta_above h = rw (le-leb width (length r) (omega arith), le-ltb (cell r 0) (2 ^ 32) h)
 
   module _ (h : cell r 0 < 2 ^ 32) where
     pub fields-above : fields_fit (cell r 1) (cell r 2) (cell r 3) (cell r 4) (cell r 5) (cell r 6) (cell r 7) ≡ false → refuses 18 ≡ event_of_row r
@@ -37,9 +37,9 @@ not_there cells at h =
 
 -- what the event of a row says of the row
 module _ (r : List ℕ) where
-  pub is-event : {e : Event Span} → event_of_row r ≡ gives e → (is_row r ≡ true) × (called_row r ≡ e)
+  pub is_event : {e : Event Span} → event_of_row r ≡ gives e → (is_row r ≡ true) × (called_row r ≡ e)
   unfolding event_of_row
-  is-event h = given (is_row r) (called_row r) 18 h
+  is_event h = given (is_row r) (called_row r) 18 h
 
   pub is_none : {n : ℕ} → event_of_row r ≡ refuses n → (is_row r ≡ false) × (n ≡ 18)
   unfolding event_of_row

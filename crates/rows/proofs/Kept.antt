@@ -61,50 +61,50 @@ flag false = refl
 
 -- The bound of a field stands at `p.1.1.1.1` in what is known of an enum's value, at `.1 .1` in what is known of a struct's.
 module _ (delta : ℕ) (d : ltb delta (2 ^ 32) ≡ true) where
-  midi-kept : (channel : ℕ) → channel < 256 → (m : MidiMessage) (vs : List Val) → Is midi-type.the_row m vs → event_of_row (delta ∷ midi_row channel (message_of m)) ≡ gives (event delta (kind.midi channel (message_of m)))
+  midi_kept : (channel : ℕ) → channel < 256 → (m : MidiMessage) (vs : List Val) → Is midi-type.the_row m vs → event_of_row (delta ∷ midi_row channel (message_of m)) ≡ gives (event delta (kind.midi channel (message_of m)))
   unfolding event_of_row is_row called_row fields_fit are_bytes row_kind row_message
-  midi-kept ch c (midi.NoteOff x y) vs p = rw (d, lt-ltb ch 256 c, lt-ltb x.0 256 p.1.1.1.1.0.1.1.0.1, lt-ltb y.0 256 p.1.1.1.1.1.0.1.1.0.1)
-  midi-kept ch c (midi.NoteOn x y) vs p = rw (d, lt-ltb ch 256 c, lt-ltb x.0 256 p.1.1.1.1.0.1.1.0.1, lt-ltb y.0 256 p.1.1.1.1.1.0.1.1.0.1)
-  midi-kept ch c (midi.Aftertouch x y) vs p = rw (d, lt-ltb ch 256 c, lt-ltb x.0 256 p.1.1.1.1.0.1.1.0.1, lt-ltb y.0 256 p.1.1.1.1.1.0.1.1.0.1)
-  midi-kept ch c (midi.Controller x y) vs p = rw (d, lt-ltb ch 256 c, lt-ltb x.0 256 p.1.1.1.1.0.1.1.0.1, lt-ltb y.0 256 p.1.1.1.1.1.0.1.1.0.1)
-  midi-kept ch c (midi.ProgramChange x) vs p = rw (d, lt-ltb ch 256 c, lt-ltb x.0 256 p.1.1.1.1.0.1.1.0.1)
-  midi-kept ch c (midi.ChannelAftertouch x) vs p = rw (d, lt-ltb ch 256 c, lt-ltb x.0 256 p.1.1.1.1.0.1.1.0.1)
-  midi-kept ch c (midi.PitchBend bend) vs p = rw (d, lt-ltb bend.0.0 65536 p.1.1.1.1.0.1.1.0.1.1.0.1, lt-ltb ch 256 c)
+  midi_kept ch c (midi.NoteOff x y) vs p = rw (d, lt-ltb ch 256 c, lt-ltb x.0 256 p.1.1.1.1.0.1.1.0.1, lt-ltb y.0 256 p.1.1.1.1.1.0.1.1.0.1)
+  midi_kept ch c (midi.NoteOn x y) vs p = rw (d, lt-ltb ch 256 c, lt-ltb x.0 256 p.1.1.1.1.0.1.1.0.1, lt-ltb y.0 256 p.1.1.1.1.1.0.1.1.0.1)
+  midi_kept ch c (midi.Aftertouch x y) vs p = rw (d, lt-ltb ch 256 c, lt-ltb x.0 256 p.1.1.1.1.0.1.1.0.1, lt-ltb y.0 256 p.1.1.1.1.1.0.1.1.0.1)
+  midi_kept ch c (midi.Controller x y) vs p = rw (d, lt-ltb ch 256 c, lt-ltb x.0 256 p.1.1.1.1.0.1.1.0.1, lt-ltb y.0 256 p.1.1.1.1.1.0.1.1.0.1)
+  midi_kept ch c (midi.ProgramChange x) vs p = rw (d, lt-ltb ch 256 c, lt-ltb x.0 256 p.1.1.1.1.0.1.1.0.1)
+  midi_kept ch c (midi.ChannelAftertouch x) vs p = rw (d, lt-ltb ch 256 c, lt-ltb x.0 256 p.1.1.1.1.0.1.1.0.1)
+  midi_kept ch c (midi.PitchBend bend) vs p = rw (d, lt-ltb bend.0.0 65536 p.1.1.1.1.0.1.1.0.1.1.0.1, lt-ltb ch 256 c)
 
-  number-kept : (n : OptionU16) (vs : List Val) → Is option-type.the_row n vs → event_of_row (delta ∷ meta_row (number_meta n)) ≡ gives (event delta (kind.meta (number_meta n)))
+  number_kept : (n : OptionU16) (vs : List Val) → Is option-type.the_row n vs → event_of_row (delta ∷ meta_row (number_meta n)) ≡ gives (event delta (kind.meta (number_meta n)))
   unfolding event_of_row is_row called_row fields_fit row_kind row_meta row_number_of
-  number-kept (option.Some n) vs p = rw (d, lt-ltb n 65536 p.1.1.1.1.0.1)
-  number-kept option.None vs p = rw d
+  number_kept (option.Some n) vs p = rw (d, lt-ltb n 65536 p.1.1.1.1.0.1)
+  number_kept option.None vs p = rw d
 
-  meta-kept : (m : MetaMessage) (vs : List Val) → Is meta_type.the_row m vs → event_of_row (delta ∷ meta_row (meta_of m)) ≡ gives (event delta (kind.meta (meta_of m)))
+  meta_kept : (m : MetaMessage) (vs : List Val) → Is meta_type.the_row m vs → event_of_row (delta ∷ meta_row (meta_of m)) ≡ gives (event delta (kind.meta (meta_of m)))
   unfolding event_of_row is_row called_row fields_fit are_bytes time_fits row_kind row_meta is_text
-  meta-kept (meta.TrackNumber n) vs p = number-kept n _ p.1.1.1.1.0
-  meta-kept (meta.Text r) vs p = rw d
-  meta-kept (meta.Copyright r) vs p = rw d
-  meta-kept (meta.TrackName r) vs p = rw d
-  meta-kept (meta.InstrumentName r) vs p = rw d
-  meta-kept (meta.Lyric r) vs p = rw d
-  meta-kept (meta.Marker r) vs p = rw d
-  meta-kept (meta.CuePoint r) vs p = rw d
-  meta-kept (meta.ProgramName r) vs p = rw d
-  meta-kept (meta.DeviceName r) vs p = rw d
-  meta-kept (meta.MidiChannel x) vs p = rw (d, lt-ltb x.0 256 p.1.1.1.1.0.1.1.0.1)
-  meta-kept (meta.MidiPort x) vs p = rw (d, lt-ltb x.0 256 p.1.1.1.1.0.1.1.0.1)
-  meta-kept meta.EndOfTrack vs p = rw d
-  meta-kept (meta.Tempo x) vs p = rw (d, lt-ltb x.0 (2 ^ 32) p.1.1.1.1.0.1.1.0.1)
-  meta-kept (meta.SmpteOffset t) vs p = rw (d, rate t.fps, lt-ltb t.hour 256 p.1.1.1.1.0.1.1.0.1, lt-ltb t.minute 256 p.1.1.1.1.0.1.1.1.0.1, lt-ltb t.second 256 p.1.1.1.1.0.1.1.1.1.0.1, lt-ltb t.frame 256 p.1.1.1.1.0.1.1.1.1.1.0.1, lt-ltb t.subframe 256 p.1.1.1.1.0.1.1.1.1.1.1.0.1)
-  meta-kept (meta.TimeSignature x y z w) vs p = rw (d, lt-ltb x 256 p.1.1.1.1.0.1, lt-ltb y 256 p.1.1.1.1.1.0.1, lt-ltb z 256 p.1.1.1.1.1.1.0.1, lt-ltb w 256 p.1.1.1.1.1.1.1.0.1)
-  meta-kept (meta.KeySignature z minor) vs p = rw (d, lt-ltb (byte_of_signed z) 256 (signed_byte_lem z p.1.1.1.1.0.1), signed_back z p.1.1.1.1.0.1, flag minor)
-  meta-kept (meta.SequencerSpecific r) vs p = rw d
-  meta-kept (meta.Unknown x r) vs p = rw (d, lt-ltb x 256 p.1.1.1.1.0.1)
+  meta_kept (meta.TrackNumber n) vs p = number_kept n _ p.1.1.1.1.0
+  meta_kept (meta.Text r) vs p = rw d
+  meta_kept (meta.Copyright r) vs p = rw d
+  meta_kept (meta.TrackName r) vs p = rw d
+  meta_kept (meta.InstrumentName r) vs p = rw d
+  meta_kept (meta.Lyric r) vs p = rw d
+  meta_kept (meta.Marker r) vs p = rw d
+  meta_kept (meta.CuePoint r) vs p = rw d
+  meta_kept (meta.ProgramName r) vs p = rw d
+  meta_kept (meta.DeviceName r) vs p = rw d
+  meta_kept (meta.MidiChannel x) vs p = rw (d, lt-ltb x.0 256 p.1.1.1.1.0.1.1.0.1)
+  meta_kept (meta.MidiPort x) vs p = rw (d, lt-ltb x.0 256 p.1.1.1.1.0.1.1.0.1)
+  meta_kept meta.EndOfTrack vs p = rw d
+  meta_kept (meta.Tempo x) vs p = rw (d, lt-ltb x.0 (2 ^ 32) p.1.1.1.1.0.1.1.0.1)
+  meta_kept (meta.SmpteOffset t) vs p = rw (d, rate t.fps, lt-ltb t.hour 256 p.1.1.1.1.0.1.1.0.1, lt-ltb t.minute 256 p.1.1.1.1.0.1.1.1.0.1, lt-ltb t.second 256 p.1.1.1.1.0.1.1.1.1.0.1, lt-ltb t.frame 256 p.1.1.1.1.0.1.1.1.1.1.0.1, lt-ltb t.subframe 256 p.1.1.1.1.0.1.1.1.1.1.1.0.1)
+  meta_kept (meta.TimeSignature x y z w) vs p = rw (d, lt-ltb x 256 p.1.1.1.1.0.1, lt-ltb y 256 p.1.1.1.1.1.0.1, lt-ltb z 256 p.1.1.1.1.1.1.0.1, lt-ltb w 256 p.1.1.1.1.1.1.1.0.1)
+  meta_kept (meta.KeySignature z minor) vs p = rw (d, lt-ltb (byte_of_signed z) 256 (signed_byte_lem z p.1.1.1.1.0.1), signed_back z p.1.1.1.1.0.1, flag minor)
+  meta_kept (meta.SequencerSpecific r) vs p = rw d
+  meta_kept (meta.Unknown x r) vs p = rw (d, lt-ltb x 256 p.1.1.1.1.0.1)
 
-  kind-kept : (k : TrackEventKind) (vs : List Val) → Is kind_type.the_row k vs → event_of_row (delta ∷ kind_row (kind_of k)) ≡ gives (event delta (kind_of k))
+  kind_kept : (k : TrackEventKind) (vs : List Val) → Is kind_type.the_row k vs → event_of_row (delta ∷ kind_row (kind_of k)) ≡ gives (event delta (kind_of k))
   unfolding event_of_row is_row called_row fields_fit row_kind
-  kind-kept (track.Midi channel message) vs p = midi-kept channel.0 p.1.1.1.1.0.1.1.0.1 message _ p.1.1.1.1.1.0
-  kind-kept (track.SysEx r) vs p = rw d
-  kind-kept (track.Escape r) vs p = rw d
-  kind-kept (track.Meta m) vs p = meta-kept m _ p.1.1.1.1.0
+  kind_kept (track.Midi channel message) vs p = midi_kept channel.0 p.1.1.1.1.0.1.1.0.1 message _ p.1.1.1.1.1.0
+  kind_kept (track.SysEx r) vs p = rw d
+  kind_kept (track.Escape r) vs p = rw d
+  kind_kept (track.Meta m) vs p = meta_kept m _ p.1.1.1.1.0
 
 -- `Is` holds of the values that the code can have: each number within its integer
 pub kept : (e : TrackEvent) (vs : List Val) → Is event-type.the_row e vs → event_of_row (event_row (event_of e)) ≡ gives (event_of e)
-kept e vs p = kind-kept e.delta.0 (lt-ltb e.delta.0 (2 ^ 32) p.1.1.0.1.1.0.1) e.kind _ p.1.1.1.0
+kept e vs p = kind_kept e.delta.0 (lt-ltb e.delta.0 (2 ^ 32) p.1.1.0.1.1.0.1) e.kind _ p.1.1.1.0

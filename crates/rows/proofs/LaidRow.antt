@@ -15,8 +15,8 @@ module _ (cells : List ℕ) (at : ℕ) (row : List ℕ) where
     pub within : i ≤ width
     pub front : rows ≡ paste cells at row i
 
-  pub laid-first : Laid cells 0
-  laid-first = record { within = omega arith; front = paste-zero cells at row }
+  pub laid_first : Laid cells 0
+  laid_first = record { within = omega arith; front = paste-zero cells at row }
 
   module _ (there : at + width ≤ length cells) (whole : length row ≡ width) {rows : List ℕ} {i : ℕ} (l : Laid rows i) where
     -- the cells stay as many

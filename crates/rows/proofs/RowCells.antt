@@ -17,8 +17,8 @@ use Rattle.smf.specs.Lists as smf
 use Rattle.smf.specs.Lists.{stopped, list_at, Reader, takes, stops, step_on, next_at}
 use Rattle.smf.proofs.Answer.{pick_test}
 use Rattle.smf.proofs.Event.{event_read}
-use Rattle.smf.proofs.Write.{length_over, over_over, put-fits}
-use Rattle.smf.proofs.ListPlaces.{list-invalid}
+use Rattle.smf.proofs.Write.{length_over, over_over, put_fits}
+use Rattle.smf.proofs.ListPlaces.{list_invalid}
 use Rattle.smf.proofs.Steps.{reader_at}
 use Rattle.track.proofs.Reading.{Sofar, begun, all, again}
 use Rattle.rows.specs.Rows.{width, event_row}
@@ -57,7 +57,7 @@ sheet_over es e before n counted =
 pub unread : (cap : ℕ) (rules : Rules) (s : List ℕ) (at first : ℕ) (cells : List ℕ) → is_running first ≡ false
     → record { cells = cells; answer = gives (record { count = 0; stop = stopped 1; place = at; running = first; padding = 0 }) } ≡ read_sheet (list_at rules cap first s at) cells
 unfolding sheet_of
-unread cap rules s at first cells v = rw (list-invalid rules cap first s at v, ← put-fits [] cells 0 (omega arith))
+unread cap rules s at first cells v = rw (list_invalid rules cap first s at v, ← put_fits [] cells 0 (omega arith))
 
 -- an event that a list takes is one of so many, and leaves a valid running status
 module _ (rules : Rules) (cap : ℕ) (s : List ℕ) (r : Reader) where
@@ -65,17 +65,17 @@ module _ (rules : Rules) (cap : ℕ) (s : List ℕ) (r : Reader) where
   Known (takes e padding r') = (r.count < cap) × (is_running r'.running ≡ true)
   Known (stops why) = Unit {0}
 
-  event-known : r.count < cap → (a : Reading (Taken (Event (List ℕ)))) → read_event rules r.running (drop r.place s) ≡ a → Known (step_on r (placed s r.place a))
+  event_known : r.count < cap → (a : Reading (Taken (Event (List ℕ)))) → read_event rules r.running (drop r.place s) ≡ a → Known (step_on r (placed s r.place a))
   unfolding step_on placed
-  event-known h (reads t) e = (h, (event_read rules r.running (drop r.place s) t e).runs)
-  event-known h (refused n after) e = tt
+  event_known h (reads t) e = (h, (event_read rules r.running (drop r.place s) t e).runs)
+  event_known h (refused n after) e = tt
 
   pub next_known : Known (next_at rules cap s r)
   unfolding next_at event_at
   next_known =
       pick_test Known (leb (length s) r.place) (λ t. tt)
       (λ t. pick_test Known (leb cap r.count) (λ u. tt)
-      (λ u. event-known (omega (arith, leb-false cap r.count u)) (read_event rules r.running (drop r.place s)) refl))
+      (λ u. event_known (omega (arith, leb-false cap r.count u)) (read_event rules r.running (drop r.place s)) refl))
 
   module _ {e : Event Span} {padding : ℕ} {r' : Reader} (q : next_at rules cap s r ≡ takes e padding r') where
     pub next-room : r.count < cap
@@ -101,13 +101,13 @@ module _ {cap : ℕ} {rules : Rules} {s : List ℕ} {at first : ℕ} {before out
   fits : 0 + length (sheet_of g.events) ≤ length before
   fits = omega (arith, front, g.sofar.within, room)
 
-  pub laying-length : length out ≡ length before
-  laying-length = ap length g.rows ∙ length_over (sheet_of g.events) before 0 fits
+  pub laying_length : length out ≡ length before
+  laying_length = ap length g.rows ∙ length_over (sheet_of g.events) before 0 fits
 
   -- the answer, where the step stops
   pub laid : {why : smf.Stop} → next_at rules cap s r ≡ stops why
       → record { cells = out; answer = gives (record { count = r.count; stop = why; place = r.place; running = r.running; padding = padding }) } ≡ read_sheet (list_at rules cap first s at) before
-  laid e = rw (all g.sofar e, ← put-fits (sheet_of g.events) before 0 fits, g.sofar.counted, g.rows)
+  laid e = rw (all g.sofar e, ← put_fits (sheet_of g.events) before 0 fits, g.sofar.counted, g.rows)
 
   module _ {own : Event Span} {more : ℕ} {r' : Reader} (e : next_at rules cap s r ≡ takes own more r') where
     pub laying-more : (end : List ℕ) → end ≡ over (event_row own) out (r.count * width) → Laying cap rules s at first before end (padding + more) r'

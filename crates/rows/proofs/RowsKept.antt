@@ -11,7 +11,7 @@ use Rattle.rows.specs.Rows.{width, event_row}
 use Rattle.rows.specs.RowEvent.{is_row, called_row}
 use Rattle.rows.specs.RowLists.{called_rows, are_rows}
 use Rattle.rows.proofs.Width.{row_length}
-use Rattle.rows.proofs.IsRow.{is-event}
+use Rattle.rows.proofs.IsRow.{is_event}
 use Rattle.rows.specs.Sheet.{sheet_of}
 use Rattle.rows.specs.Kept.{AllKept, Kept}
 
@@ -27,13 +27,13 @@ rows : (es : List (Event Span)) (behind : List ℕ) → AllKept es → are_rows 
 unfolding sheet_of are_rows
 rows [] behind k = refl
 rows (e ∷ es) behind k =
-    ap₂ (λ (s t : Bool). s && t) (ap is_row (first e es behind) ∙ (is-event (event_row e) k.0).0) (ap (are_rows (length es)) (rest e es behind) ∙ rows es behind k.1)
+    ap₂ (λ (s t : Bool). s && t) (ap is_row (first e es behind) ∙ (is_event (event_row e) k.0).0) (ap (are_rows (length es)) (rest e es behind) ∙ rows es behind k.1)
 
 back : (es : List (Event Span)) (behind : List ℕ) → AllKept es → called_rows (length es) (sheet_of es ++ behind) ≡ es
 unfolding sheet_of called_rows
 back [] behind k = refl
 back (e ∷ es) behind k =
-    let own = is-event (event_row e) k.0 in
+    let own = is_event (event_row e) k.0 in
     ap₂ (λ (x : Event Span) (xs : List (Event Span)). x ∷ xs) (ap called_row (first e es behind) ∙ own.1)
     (ap (called_rows (length es)) (rest e es behind) ∙ back es behind k.1)
 

@@ -21,7 +21,7 @@ use Rattle.smf.specs.Lists.{Reader, full, takes, stops, step_on, next_at}
 use Rattle.smf.proofs.Answer.{by-test, by-lt}
 use Rattle.smf.proofs.Number.{encode_one}
 use Rattle.smf.proofs.Place.{Sited, site_begun, site_next, number_placed_lem}
-use Rattle.smf.proofs.Reading.{message_with, one_or_two, data-one, data-two, body-status, body-running, status-channel, running_channel, event-body}
+use Rattle.smf.proofs.Reading.{message_with, one_or_two, data_one, data-two, body_status, body_running, status_channel, running_channel, event-body}
 use Rattle.smf.proofs.Steps.{event_within_lem}
 use Rattle.rows.specs.Rows.{row, midi_row}
 use Rattle.rows.specs.Short.{short_event, DataRead, ShortRead}
@@ -43,16 +43,16 @@ module _ (s : List ℕ) (at place status : ℕ) (fits : place + 2 ≤ length s) 
   enough : data_length status ≤ length s - place
   enough = ⊎_elim (λ n. omega arith) (λ n. omega arith) (one_or_two status)
 
-  pub found-one : status / 32 ≡ 6 → DataRead s at place status (place + 1 - at) status (get_or s place 0) 0
-  found-one h =
+  pub found_one : status / 32 ≡ 6 → DataRead s at place status (place + 1 - at) status (get_or s place 0) 0
+  found_one h =
       record {
         same = refl;
         single = λ n. refl;
-        read = λ rules delta site. data-one rules s at place status delta site 0 enough (one_byte status h) a;
+        read = λ rules delta site. data_one rules s at place status delta site 0 enough (one_byte status h) a;
       }
 
-  pub found-two : (status / 32 ≡ 6 → ⊥) → get_or s (place + 1) 0 < 0x80 → DataRead s at place status (place + 2 - at) status (get_or s place 0) (get_or s (place + 1) 0)
-  found-two h b =
+  pub found_two : (status / 32 ≡ 6 → ⊥) → get_or s (place + 1) 0 < 0x80 → DataRead s at place status (place + 2 - at) status (get_or s place 0) (get_or s (place + 1) 0)
+  found_two h b =
       record {
         same = refl;
         single = λ n. absurd (h n);
@@ -61,9 +61,9 @@ module _ (s : List ℕ) (at place status : ℕ) (fits : place + 2 ≤ length s) 
 
 module _ (s : List ℕ) (at running : ℕ) (valid : is_running running ≡ true) (fits : at + 4 ≤ length s) (small : get_or s at 0 < 0x80) where
   -- a delta of one byte
-  delta-read : (rules : Rules) → read_number rules (drop at s) ≡ gives (numeral (get_or s at 0) (drop (at + 1) s))
+  delta_read_lem : (rules : Rules) → read_number rules (drop at s) ≡ gives (numeral (get_or s at 0) (drop (at + 1) s))
   unfolding read_number number_from
-  delta-read rules =
+  delta_read_lem rules =
       let own : 0 * 128 + get_or s at 0 % 128 ≡ get_or s at 0 = omega arith in
       rw (drop-cons s at 0 (omega arith), lt-ltb (get_or s at 0) 128 small, own, add-one at)
 
@@ -73,7 +73,7 @@ module _ (s : List ℕ) (at running : ℕ) (valid : is_running running ≡ true)
 
   body : (rules : Rules) → (placed s at (name_raw rules (read_body rules running delta (drop (at + 1) s))) ≡ event_at rules running s at) × Sited s at (at + 1)
   body rules =
-      let b = event-body rules running s at valid (number_placed_lem rules s at (delta-read rules) (site_next s at at (omega arith) (site_begun s at))) in
+      let b = event-body rules running s at valid (number_placed_lem rules s at (delta_read_lem rules) (site_next s at at (omega arith) (site_begun s at))) in
       let none : at + 1 - at - length (encode_number (get_or s at 0)) ≡ 0 = omega (arith, encode_one (get_or s at 0) small) in
       (rw none at b.0, b.1)
 
@@ -89,7 +89,7 @@ module _ (s : List ℕ) (at running : ℕ) (valid : is_running running ≡ true)
           read = λ rules.
               let site : Sited s at (at + 2) = rw two at (site_next s at (at + 1) (omega arith) (body rules).1) in
               d.read rules delta site
-              ∙ rw (d.same, ← two, ← status-channel rules running delta (get_or s (at + 1) 0) (drop (at + 1 + 1) s) g, ← body-status rules running delta s (at + 1) (omega arith) h) (body rules).0;
+              ∙ rw (d.same, ← two, ← status_channel rules running delta (get_or s (at + 1) 0) (drop (at + 1 + 1) s) g, ← body_status rules running delta s (at + 1) (omega arith) h) (body rules).0;
         }
 
     -- under the running status
@@ -101,7 +101,7 @@ module _ (s : List ℕ) (at running : ℕ) (valid : is_running running ≡ true)
           channel = (omega (arith, d.same, bounds.0), omega (arith, d.same, bounds.1));
           single = d.single;
           read = λ rules.
-              d.read rules delta (body rules).1 ∙ rw (d.same, ← body-running rules running delta s (at + 1) (omega arith) h z) (body rules).0;
+              d.read rules delta (body rules).1 ∙ rw (d.same, ← body_running rules running delta s (at + 1) (omega arith) h z) (body rules).0;
         }
 
 -- Its row
@@ -110,27 +110,27 @@ module _ (channel status a b : ℕ) where
   abbrev cells : List ℕ
   cells = midi_row channel (message_with status a b)
 
-  pub row-bend : status / 16 ≡ 14 → cells ≡ row (status / 16) channel (a + 128 * b) 0 0 0 0
+  pub row_bend : status / 16 ≡ 14 → cells ≡ row (status / 16) channel (a + 128 * b) 0 0 0 0
   unfolding message_with message_two data_length
-  row-bend h = rw h
+  row_bend h = rw h
 
-  one-data : (status / 16 ≡ 12) ⊎ (status / 16 ≡ 13) → b ≡ 0 → cells ≡ row (status / 16) channel a b 0 0 0
+  one_data : (status / 16 ≡ 12) ⊎ (status / 16 ≡ 13) → b ≡ 0 → cells ≡ row (status / 16) channel a b 0 0 0
   unfolding message_with message_one message_two data_length
-  one-data is z = rw z (⊎_elim (λ e. rw e) (λ e. rw e) is)
+  one_data is z = rw z (⊎_elim (λ e. rw e) (λ e. rw e) is)
 
-  two-data : ((status / 16 ≡ 8) ⊎ (status / 16 ≡ 9)) ⊎ ((status / 16 ≡ 10) ⊎ (status / 16 ≡ 11)) → cells ≡ row (status / 16) channel a b 0 0 0
+  two_data : ((status / 16 ≡ 8) ⊎ (status / 16 ≡ 9)) ⊎ ((status / 16 ≡ 10) ⊎ (status / 16 ≡ 11)) → cells ≡ row (status / 16) channel a b 0 0 0
   unfolding message_with message_two data_length
-  two-data is = ⊎_elim (⊎_elim (λ e. rw e) (λ e. rw e)) (⊎_elim (λ e. rw e) (λ e. rw e)) is
+  two_data is = ⊎_elim (⊎_elim (λ e. rw e) (λ e. rw e)) (⊎_elim (λ e. rw e) (λ e. rw e)) is
 
-  pub row-data : 0x80 ≤ status → status < 0xF0 → (status / 16 ≡ 14 → ⊥) → (status / 32 ≡ 6 → b ≡ 0) → cells ≡ row (status / 16) channel a b 0 0 0
-  row-data low high bend single =
+  pub row_data : 0x80 ≤ status → status < 0xF0 → (status / 16 ≡ 14 → ⊥) → (status / 32 ≡ 6 → b ≡ 0) → cells ≡ row (status / 16) channel a b 0 0 0
+  row_data low high bend single =
       let n = status / 16 in
-      by-lt n 9 (λ lt. two-data (inl (inl (omega arith))))
-      (λ g. by-lt n 10 (λ lt. two-data (inl (inr (omega arith))))
-      (λ h. by-lt n 11 (λ lt. two-data (inr (inl (omega arith))))
-      (λ i. by-lt n 12 (λ lt. two-data (inr (inr (omega arith))))
-      (λ j. by-lt n 13 (λ lt. one-data (inl (omega arith)) (single (omega arith)))
-      (λ k. by-lt n 14 (λ lt. one-data (inr (omega arith)) (single (omega arith)))
+      by-lt n 9 (λ lt. two_data (inl (inl (omega arith))))
+      (λ g. by-lt n 10 (λ lt. two_data (inl (inr (omega arith))))
+      (λ h. by-lt n 11 (λ lt. two_data (inr (inl (omega arith))))
+      (λ i. by-lt n 12 (λ lt. two_data (inr (inr (omega arith))))
+      (λ j. by-lt n 13 (λ lt. one_data (inl (omega arith)) (single (omega arith)))
+      (λ k. by-lt n 14 (λ lt. one_data (inr (omega arith)) (single (omega arith)))
       (λ l. absurd (bend (omega arith))))))))
 
 -- As a step of a list
@@ -139,13 +139,13 @@ module _ (rules : Rules) (cap : ℕ) {s : List ℕ} {place running used status a
   abbrev here : Reader
   here = record { place = place; running = running; count = count }
 
-  pub short-within : place + used ≤ length s
-  short-within = event_within_lem rules running s place (sym (found.read rules))
+  pub short_within : place + used ≤ length s
+  short_within = event_within_lem rules running s place (sym (found.read rules))
 
-  pub short-full : cap ≤ count → next_at rules cap s here ≡ stops full
+  pub short_full : cap ≤ count → next_at rules cap s here ≡ stops full
   unfolding next_at
-  short-full h = rw (lt-leb (length s) place found.there, le-leb cap count h)
+  short_full h = rw (lt-leb (length s) place found.there, le-leb cap count h)
 
-  pub short-next : count < cap → next_at rules cap s here ≡ takes (short_event (get_or s place 0) status a b) 0 (record { place = place + used; running = status; count = count + 1 })
+  pub short_next : count < cap → next_at rules cap s here ≡ takes (short_event (get_or s place 0) status a b) 0 (record { place = place + used; running = status; count = count + 1 })
   unfolding next_at step_on
-  short-next h = rw (lt-leb (length s) place found.there, lt-leb cap count h, ← found.read rules)
+  short_next h = rw (lt-leb (length s) place found.there, lt-leb cap count h, ← found.read rules)

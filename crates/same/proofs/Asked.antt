@@ -12,32 +12,32 @@ use Rattle.smf.specs.Lists.{Counted, SameList}
 use Rattle.smf.proofs.Answer.{by-test}
 use Rattle.rows.specs.RowEvent.{is_row, called_row, event_of_row}
 use Rattle.rows.specs.RowLists.{are_rows}
-use Rattle.rows.proofs.IsRow.{is-event, is_none}
+use Rattle.rows.proofs.IsRow.{is_event, is_none}
 use Rattle.same.specs.Same.{Tells}
 use Rattle.same.specs.OfRows.{rows_asked, lists_asked, SameGiven}
 
 -- two rows
 module _ (a b : List ℕ) where
-  pub first-no-row : {n : ℕ} → event_of_row a ≡ refuses n → rows_asked a b ≡ refuses n
+  pub first_no_row : {n : ℕ} → event_of_row a ≡ refuses n → rows_asked a b ≡ refuses n
   unfolding rows_asked
-  first-no-row h = rw ((is_none a h).0, (is_none a h).1)
+  first_no_row h = rw ((is_none a h).0, (is_none a h).1)
 
-  pub second-no-row : {n : ℕ} → event_of_row b ≡ refuses n → rows_asked a b ≡ refuses n
+  pub second_no_row : {n : ℕ} → event_of_row b ≡ refuses n → rows_asked a b ≡ refuses n
   unfolding rows_asked
-  second-no-row h = rw ((is_none b h).0, (is_none b h).1) (by-test (is_row a) (λ e. rw e) (λ e. rw e))
+  second_no_row h = rw ((is_none b h).0, (is_none b h).1) (by-test (is_row a) (λ e. rw e) (λ e. rw e))
 
   module _ {e f : Event Span} (p : event_of_row a ≡ gives e) (q : event_of_row b ≡ gives f) where
     pub both-rows : rows_asked a b ≡ gives tt
     unfolding rows_asked
-    both-rows = rw ((is-event a p).0, (is-event b q).0)
+    both-rows = rw ((is_event a p).0, (is_event b q).0)
 
     pub rows_tell : (s t : List ℕ) (r : Bool) → Tells r (Same s e t f) → Tells r (Same s (called_row a) t (called_row b))
-    rows_tell s t r told = rw ((is-event a p).1, (is-event b q).1) told
+    rows_tell s t r told = rw ((is_event a p).1, (is_event b q).1) told
 
 -- what rows gave, of which either may be no event
 module _ (s : List ℕ) (x : Answer (Event Span)) (t : List ℕ) (y : Answer (Event Span)) where
-  pub first-none : {n : ℕ} → x ≡ refuses n → SameGiven s x t y → ⊥
-  first-none {n} e same = by y (rw e at same) where
+  pub first_none : {n : ℕ} → x ≡ refuses n → SameGiven s x t y → ⊥
+  first_none {n} e same = by y (rw e at same) where
     by : (y : Answer (Event Span)) → SameGiven s (refuses n) t y → ⊥
     by (gives f) same = same
     by (refuses m) same = same
@@ -48,8 +48,8 @@ module _ (s : List ℕ) (x : Answer (Event Span)) (t : List ℕ) (y : Answer (Ev
     by (gives f) same = same
     by (refuses m) same = same
 
-  pub both-given : {e f : Event Span} → x ≡ gives e → y ≡ gives f → (r : Bool) → Tells r (Same s e t f) → Tells r (SameGiven s x t y)
-  both-given p q r told = rw (p, q) told
+  pub both_given : {e f : Event Span} → x ≡ gives e → y ≡ gives f → (r : Bool) → Tells r (Same s e t f) → Tells r (SameGiven s x t y)
+  both_given p q r told = rw (p, q) told
 
 -- lists of rows
 module _ (most : ℕ) (a : List ℕ) (m : ℕ) (b : List ℕ) (n : ℕ) where

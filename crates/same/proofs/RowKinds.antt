@@ -184,11 +184,11 @@ module _ (s : List ℕ) (k : TrackEventKind) (r : Row) (numbers : row_numbers r 
   row_back : (vs : List Val) → Is (row the_type) k vs → back (row_fields r) (bytes_of s (load_span r)) ≡ map_kind (bytes_of s) (kind_of k)
   row_back vs h = ap (λ (l : List ℕ). back (fields l) (bytes_of s (place l))) numbers ∙ kind_back s k vs h
 
-  row-fields : fields_of (map_kind (bytes_of s) (kind_of k)) ≡ row_fields r
-  row-fields = kind_fields (bytes_of s) (kind_of k) ∙ ap fields (sym numbers)
+  row_fields_lem : fields_of (map_kind (bytes_of s) (kind_of k)) ≡ row_fields r
+  row_fields_lem = kind_fields (bytes_of s) (kind_of k) ∙ ap fields (sym numbers)
 
-  row-load : kind_load [] (map_kind (bytes_of s) (kind_of k)) ≡ bytes_of s (load_span r)
-  row-load = kind_load_lem s (kind_of k) ∙ ap (λ (l : List ℕ). bytes_of s (place l)) (sym numbers)
+  row_load_lem : kind_load [] (map_kind (bytes_of s) (kind_of k)) ≡ bytes_of s (load_span r)
+  row_load_lem = kind_load_lem s (kind_of k) ∙ ap (λ (l : List ℕ). bytes_of s (place l)) (sym numbers)
 
 module _ (s t : List ℕ) (k l : TrackEventKind) (q r : Row) (numbers : row_numbers q ≡ kind_row (kind_of k)) (numbers' : row_numbers r ≡ kind_row (kind_of l)) where
   abbrev SameKind : Type 0
@@ -200,18 +200,18 @@ module _ (s t : List ℕ) (k l : TrackEventKind) (q r : Row) (numbers : row_numb
   abbrev SameLoad : Type 0
   SameLoad = bytes_of s (load_span q) ≡ bytes_of t (load_span r)
 
-  fields-agree : SameKind → SameFields
-  fields-agree e = sym (row-fields s k q numbers) ∙ ap fields_of e ∙ row-fields t l r numbers'
+  fields_agree : SameKind → SameFields
+  fields_agree e = sym (row_fields_lem s k q numbers) ∙ ap fields_of e ∙ row_fields_lem t l r numbers'
 
-  load-agrees : SameKind → SameLoad
-  load-agrees e = sym (row-load s k q numbers) ∙ ap (kind_load []) e ∙ row-load t l r numbers'
+  load_agrees : SameKind → SameLoad
+  load_agrees e = sym (row_load_lem s k q numbers) ∙ ap (kind_load []) e ∙ row_load_lem t l r numbers'
 
   -- a test of the fields that fails tells the kinds apart; where it holds, the payload's test tells
-  pub fields-differ : (b : Bool) → Tells b SameFields → b ≡ false → SameKind → ⊥
-  fields-differ b told e same = subst (λ (x : Bool). Tells x SameFields) e told (fields-agree same)
+  pub fields_differ : (b : Bool) → Tells b SameFields → b ≡ false → SameKind → ⊥
+  fields_differ b told e same = subst (λ (x : Bool). Tells x SameFields) e told (fields_agree same)
 
-  pub load-tells : (vs ws : List Val) → Is (row the_type) k vs → Is (row the_type) l ws
+  pub load_tells : (vs ws : List Val) → Is (row the_type) k vs → Is (row the_type) l ws
       → (b c : Bool) → Tells b SameFields → b ≡ true → Tells c SameLoad → Tells c SameKind
-  load-tells vs ws h h' b c told e loads =
+  load_tells vs ws h h' b c told e loads =
       let f : SameFields = subst (λ (x : Bool). Tells x SameFields) e told in
-      tells_too SameLoad SameKind c loads (λ p. sym (row_back s k q numbers vs h) ∙ ap₂ back f p ∙ row_back t l r numbers' ws h') load-agrees
+      tells_too SameLoad SameKind c loads (λ p. sym (row_back s k q numbers vs h) ∙ ap₂ back f p ∙ row_back t l r numbers' ws h') load_agrees

@@ -13,7 +13,7 @@ use Rattle.smf.proofs.Answer.{both}
 use Rattle.rows.specs.Rows.{width}
 use Rattle.rows.specs.RowEvent.{is_row, event_of_row, called_row}
 use Rattle.rows.specs.RowLists.{called_rows, are_rows}
-use Rattle.rows.proofs.RowsOn.{rows_on, records-on, records_length}
+use Rattle.rows.proofs.RowsOn.{rows_on, records_on, records_length}
 use Rattle.same.specs.OfRows.{SameGiven}
 
 module _ (s a t b : List ℕ) where
@@ -41,8 +41,8 @@ module _ (s a t b : List ℕ) where
     pub to : Alike left (drop at a) (drop at b) → Alike count a b
     pub from : Alike count a b → Alike left (drop at a) (drop at b)
 
-  pub compared-first : (count : ℕ) → are_rows count a ≡ true → are_rows count b ≡ true → Compared count 0 count
-  compared-first count p q = record { within = omega arith; first_rows = p; second-rows = q; to = λ h. h; from = λ h. h }
+  pub compared_first : (count : ℕ) → are_rows count a ≡ true → are_rows count b ≡ true → Compared count 0 count
+  compared_first count p q = record { within = omega arith; first_rows = p; second-rows = q; to = λ h. h; from = λ h. h }
 
   module _ {count at left : ℕ} (g : Compared count at left) where
     pub compared-last : left ≤ 0 → SameRows count
@@ -81,11 +81,11 @@ module _ (s a t b : List ℕ) where
 
       apart : Alike count a b → SameHere × Ahead
       apart h =
-          let e : map (map_event (bytes_of s)) (called_row ra ∷ called_rows (left - 1) (drop (at + width) a)) ≡ map (map_event (bytes_of t)) (called_row rb ∷ called_rows (left - 1) (drop (at + width) b)) = rw (records-on a at more, records-on b at more) at (g.from h) in
+          let e : map (map_event (bytes_of s)) (called_row ra ∷ called_rows (left - 1) (drop (at + width) a)) ≡ map (map_event (bytes_of t)) (called_row rb ∷ called_rows (left - 1) (drop (at + width) b)) = rw (records_on a at more, records_on b at more) at (g.from h) in
           (cc, cc)
 
       together : SameHere → Ahead → Alike count a b
-      together p q = g.to (rw (records-on a at more, records-on b at more) (ap₂ (λ (x : Event (List ℕ)) (l : List (Event (List ℕ))). x ∷ l) p q))
+      together p q = g.to (rw (records_on a at more, records_on b at more) (ap₂ (λ (x : Event (List ℕ)) (l : List (Event (List ℕ))). x ∷ l) p q))
 
       pub compared-more : SameGiven s (event_of_row ra) t (event_of_row rb) → Compared count (at + width) (left - 1)
       compared-more h =

@@ -15,27 +15,27 @@ use Rattle.track.proofs.Held.{past}
 
 -- the elements at one place of two lists whose first so many agree
 module _ {A B : Type 0} (f g : A → B) (d : A) where
-  agree-more : (i : ℕ) (xs ys : List A) → i < length xs → i < length ys → map f (take i xs) ≡ map g (take i ys) → f (get_or xs i d) ≡ g (get_or ys i d)
+  agree_more : (i : ℕ) (xs ys : List A) → i < length xs → i < length ys → map f (take i xs) ≡ map g (take i ys) → f (get_or xs i d) ≡ g (get_or ys i d)
       → map f (take (suc i) xs) ≡ map g (take (suc i) ys)
-  agree-more zero [] ys p q h e = absurd (omega arith)
-  agree-more zero (x ∷ xs) [] p q h e = absurd (omega arith)
-  agree-more zero (x ∷ xs) (y ∷ ys) p q h e = ap (λ (b : B). b ∷ []) e
-  agree-more (suc i) [] ys p q h e = absurd (omega arith)
-  agree-more (suc i) (x ∷ xs) [] p q h e = absurd (omega arith)
-  agree-more (suc i) (x ∷ xs) (y ∷ ys) p q h e =
+  agree_more zero [] ys p q h e = absurd (omega arith)
+  agree_more zero (x ∷ xs) [] p q h e = absurd (omega arith)
+  agree_more zero (x ∷ xs) (y ∷ ys) p q h e = ap (λ (b : B). b ∷ []) e
+  agree_more (suc i) [] ys p q h e = absurd (omega arith)
+  agree_more (suc i) (x ∷ xs) [] p q h e = absurd (omega arith)
+  agree_more (suc i) (x ∷ xs) (y ∷ ys) p q h e =
       let head : f x ≡ g y = cc in
       let tail : map f (take i xs) ≡ map g (take i ys) = cc in
-      ap₂ (λ (b : B) (l : List B). b ∷ l) head (agree-more i xs ys (omega arith) (omega arith) tail e)
+      ap₂ (λ (b : B) (l : List B). b ∷ l) head (agree_more i xs ys (omega arith) (omega arith) tail e)
 
-  agree-there : (m i : ℕ) (xs ys : List A) → i < m → i < length xs → i < length ys → map f (take m xs) ≡ map g (take m ys) → f (get_or xs i d) ≡ g (get_or ys i d)
-  agree-there zero i xs ys r p q h = absurd (omega arith)
-  agree-there (suc m) zero [] ys r p q h = absurd (omega arith)
-  agree-there (suc m) zero (x ∷ xs) [] r p q h = absurd (omega arith)
-  agree-there (suc m) zero (x ∷ xs) (y ∷ ys) r p q h = cc
-  agree-there (suc m) (suc i) [] ys r p q h = absurd (omega arith)
-  agree-there (suc m) (suc i) (x ∷ xs) [] r p q h = absurd (omega arith)
-  agree-there (suc m) (suc i) (x ∷ xs) (y ∷ ys) r p q h =
-      let tail : map f (take m xs) ≡ map g (take m ys) = cc in agree-there m i xs ys (omega arith) (omega arith) (omega arith) tail
+  agree_there : (m i : ℕ) (xs ys : List A) → i < m → i < length xs → i < length ys → map f (take m xs) ≡ map g (take m ys) → f (get_or xs i d) ≡ g (get_or ys i d)
+  agree_there zero i xs ys r p q h = absurd (omega arith)
+  agree_there (suc m) zero [] ys r p q h = absurd (omega arith)
+  agree_there (suc m) zero (x ∷ xs) [] r p q h = absurd (omega arith)
+  agree_there (suc m) zero (x ∷ xs) (y ∷ ys) r p q h = cc
+  agree_there (suc m) (suc i) [] ys r p q h = absurd (omega arith)
+  agree_there (suc m) (suc i) (x ∷ xs) [] r p q h = absurd (omega arith)
+  agree_there (suc m) (suc i) (x ∷ xs) (y ∷ ys) r p q h =
+      let tail : map f (take m xs) ≡ map g (take m ys) = cc in agree_there m i xs ys (omega arith) (omega arith) (omega arith) tail
 
 module _ (s : List ℕ) (xs : List Record) (t : List ℕ) (ys : List Record) where
   -- the first so many agree
@@ -45,18 +45,18 @@ module _ (s : List ℕ) (xs : List Record) (t : List ℕ) (ys : List Record) whe
   abbrev SameCounted : ℕ → ℕ → Type 0
   SameCounted m n = SameList s (map record_of xs) m t (map record_of ys) n
 
-  pub agree-first : Agree 0
-  agree-first = refl
+  pub agree_first : Agree 0
+  agree_first = refl
 
-  pub counts-differ : {m n : ℕ} → (n ≡ m → ⊥) → SameCounted m n → ⊥
-  counts-differ differ same = differ (sym (ap (λ (c : Counted). c.count) same))
+  pub counts_differ : {m n : ℕ} → (n ≡ m → ⊥) → SameCounted m n → ⊥
+  counts_differ differ same = differ (sym (ap (λ (c : Counted). c.count) same))
 
-  pub all-agree : {m n i : ℕ} → n ≡ m → i ≡ m → Agree i → SameCounted m n
-  all-agree {m} {n} {i} e f agree = rw (e, ← f) (ap (λ (es : List (Event (List ℕ))). record { count = i; events = es }) agree)
+  pub all_agree : {m n i : ℕ} → n ≡ m → i ≡ m → Agree i → SameCounted m n
+  all_agree {m} {n} {i} e f agree = rw (e, ← f) (ap (λ (es : List (Event (List ℕ))). record { count = i; events = es }) agree)
 
   -- as many as are held, where the count is above that
-  pub held-agree : {m n i : ℕ} → n ≡ m → length xs ≤ i → length ys ≤ i → i ≤ m → Agree i → SameCounted m n
-  held-agree {m} {n} {i} e p q r agree =
+  pub held_agree : {m n i : ℕ} → n ≡ m → length xs ≤ i → length ys ≤ i → i ≤ m → Agree i → SameCounted m n
+  held_agree {m} {n} {i} e p q r agree =
       let es = map record_of xs in
       let fs = map record_of ys in
       let a : take m es ≡ take i es = take_all m es (omega (arith, length-map xs record_of)) ∙ sym (take_all i es (omega (arith, length-map xs record_of))) in
@@ -74,10 +74,10 @@ module _ (s : List ℕ) (xs : List Record) (t : List ℕ) (ys : List Record) whe
         (agree-more' agree (ap (map_event (bytes_of s)) (there xs) ∙ same ∙ sym (ap (map_event (bytes_of t)) (there ys))))
       where
         agree-more' : Agree i → map_event (bytes_of s) (get_or (map record_of xs) i (record_of past)) ≡ map_event (bytes_of t) (get_or (map record_of ys) i (record_of past)) → Agree (suc i)
-        agree-more' h e = agree-more (map_event (bytes_of s)) (map_event (bytes_of t)) (record_of past) i (map record_of xs) (map record_of ys) (omega (arith, length-map xs record_of)) (omega (arith, length-map ys record_of)) h e
+        agree-more' h e = agree_more (map_event (bytes_of s)) (map_event (bytes_of t)) (record_of past) i (map record_of xs) (map record_of ys) (omega (arith, length-map xs record_of)) (omega (arith, length-map ys record_of)) h e
 
     pub not_same : {m n : ℕ} → i < m → n ≡ m → (Same s (record_of (get_or xs i past)) t (record_of (get_or ys i past)) → ⊥) → SameCounted m n → ⊥
     not_same {m} {n} r e differ same =
         let h : listed s (map record_of xs) m ≡ listed t (map record_of ys) m = ap (λ (c : Counted). c.events) same ∙ ap (λ (k : ℕ). listed t (map record_of ys) k) e in
-        let z = agree-there (map_event (bytes_of s)) (map_event (bytes_of t)) (record_of past) m i (map record_of xs) (map record_of ys) r (omega (arith, length-map xs record_of)) (omega (arith, length-map ys record_of)) h in
+        let z = agree_there (map_event (bytes_of s)) (map_event (bytes_of t)) (record_of past) m i (map record_of xs) (map record_of ys) r (omega (arith, length-map xs record_of)) (omega (arith, length-map ys record_of)) h in
         differ (sym (ap (map_event (bytes_of s)) (there xs)) ∙ z ∙ ap (map_event (bytes_of t)) (there ys))

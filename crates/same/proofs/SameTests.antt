@@ -31,13 +31,13 @@ last_tells a b k p q r s t = tells_equal (row_fields a ≡ row_fields b) a.f b.f
 
 -- unequal deltas tell two events apart, and where they agree the kinds tell
 module _ (s : List ℕ) (e : Event Span) (t : List ℕ) (f : Event Span) where
-  pub deltas-differ : (e.delta ≡ f.delta → ⊥) → Same s e t f → ⊥
+  pub deltas_differ : (e.delta ≡ f.delta → ⊥) → Same s e t f → ⊥
   unfolding map_event
-  deltas-differ differ same = differ (ap (λ (x : Event (List ℕ)). x.delta) same)
+  deltas_differ differ same = differ (ap (λ (x : Event (List ℕ)). x.delta) same)
 
-  pub kinds-tell : (b : Bool) → e.delta ≡ f.delta → Tells b (map_kind (bytes_of s) e.kind ≡ map_kind (bytes_of t) f.kind) → Tells b (Same s e t f)
+  pub kinds_tell : (b : Bool) → e.delta ≡ f.delta → Tells b (map_kind (bytes_of s) e.kind ≡ map_kind (bytes_of t) f.kind) → Tells b (Same s e t f)
   unfolding map_event
-  kinds-tell b d told =
+  kinds_tell b d told =
       tells_too (map_kind (bytes_of s) e.kind ≡ map_kind (bytes_of t) f.kind) (Same s e t f) b told (λ k. ap₂ event d k)
       (λ same. ap (λ (x : Event (List ℕ)). x.kind) same)
 

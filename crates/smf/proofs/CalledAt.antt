@@ -23,51 +23,51 @@ use Rattle.smf.proofs.MetaAt.{called_at}
 -- the form of each type
 
 module _ (rules : Rules) (p : List ℕ) where
-  pub form-number : called_meta rules 0x00 p ≡ gives (track_number_of p)
+  pub form_number : called_meta rules 0x00 p ≡ gives (track_number_of p)
   unfolding called_meta
-  form-number = refl
+  form_number = refl
 
-  pub form-text : (t : ℕ) → 1 ≤ t → t ≤ 9 → called_meta rules t p ≡ gives (text t p)
+  pub form_text : (t : ℕ) → 1 ≤ t → t ≤ 9 → called_meta rules t p ≡ gives (text t p)
   unfolding called_meta is_text
-  form-text t h g = rw (ne_eqb t 0x00 (λ e. omega arith), le-leb 1 t h, le-leb t 9 g)
+  form_text t h g = rw (ne_eqb t 0x00 (λ e. omega arith), le-leb 1 t h, le-leb t 9 g)
 
-  pub form-channel : called_meta rules 0x20 p ≡ from 1 0x20 p (and_then (narrow rules 16 (byte p 0)) (λ c. gives (midi_channel c)))
+  pub form_channel : called_meta rules 0x20 p ≡ from 1 0x20 p (and_then (narrow rules 16 (byte p 0)) (λ c. gives (midi_channel c)))
   unfolding called_meta is_text
-  form-channel = refl
+  form_channel = refl
 
-  pub form-port : called_meta rules 0x21 p ≡ from 1 0x21 p (and_then (narrow rules 128 (byte p 0)) (λ c. gives (midi_port c)))
+  pub form_port : called_meta rules 0x21 p ≡ from 1 0x21 p (and_then (narrow rules 128 (byte p 0)) (λ c. gives (midi_port c)))
   unfolding called_meta is_text
-  form-port = refl
+  form_port = refl
 
-  pub form-end : called_meta rules 0x2F p ≡ gives end_of_track
+  pub form_end : called_meta rules 0x2F p ≡ gives end_of_track
   unfolding called_meta is_text
-  form-end = refl
+  form_end = refl
 
-  pub form-tempo : called_meta rules 0x51 p ≡ from 3 0x51 p (gives (tempo_of p))
+  pub form_tempo : called_meta rules 0x51 p ≡ from 3 0x51 p (gives (tempo_of p))
   unfolding called_meta is_text
-  form-tempo = refl
+  form_tempo = refl
 
-  pub form-smpte : called_meta rules 0x54 p ≡ from 5 0x54 p (and_then (time_in rules p) (λ time. gives (smpte_offset time)))
+  pub form_smpte : called_meta rules 0x54 p ≡ from 5 0x54 p (and_then (time_in rules p) (λ time. gives (smpte_offset time)))
   unfolding called_meta is_text
-  form-smpte = refl
+  form_smpte = refl
 
-  pub form-signature : called_meta rules 0x58 p ≡ from 4 0x58 p (gives (signature_of p))
+  pub form_signature : called_meta rules 0x58 p ≡ from 4 0x58 p (gives (signature_of p))
   unfolding called_meta is_text
-  form-signature = refl
+  form_signature = refl
 
-  pub form-key : called_meta rules 0x59 p ≡ pick (leb 2 (length p)) (gives (key_of p)) (refuses 14)
+  pub form_key : called_meta rules 0x59 p ≡ pick (leb 2 (length p)) (gives (key_of p)) (refuses 14)
   unfolding called_meta is_text
-  form-key = refl
+  form_key = refl
 
-  pub form-sequencer : called_meta rules 0x7F p ≡ gives (sequencer_specific p)
+  pub form_sequencer : called_meta rules 0x7F p ≡ gives (sequencer_specific p)
   unfolding called_meta is_text
-  form-sequencer = refl
+  form_sequencer = refl
 
   -- every other type
-  pub form-unknown : (t : ℕ) → 10 ≤ t → (t ≡ 0x20 → ⊥) → (t ≡ 0x21 → ⊥) → (t ≡ 0x2F → ⊥) → (t ≡ 0x51 → ⊥) → (t ≡ 0x54 → ⊥)
+  pub form_unknown : (t : ℕ) → 10 ≤ t → (t ≡ 0x20 → ⊥) → (t ≡ 0x21 → ⊥) → (t ≡ 0x2F → ⊥) → (t ≡ 0x51 → ⊥) → (t ≡ 0x54 → ⊥)
       → (t ≡ 0x58 → ⊥) → (t ≡ 0x59 → ⊥) → (t ≡ 0x7F → ⊥) → called_meta rules t p ≡ gives (unknown t p)
   unfolding called_meta is_text
-  form-unknown t h a b c d e f g i =
+  form_unknown t h a b c d e f g i =
       let n : eqb t 0x00 ≡ false = ne_eqb t 0x00 (λ q. omega arith) in
       let one : leb 1 t ≡ true = le-leb 1 t (omega arith) in
       let nine : leb t 9 ≡ false = lt-leb t 9 (omega arith) in
@@ -75,17 +75,17 @@ module _ (rules : Rules) (p : List ℕ) where
 
 -- a narrow field
 module _ (rules : Rules) (limit b : ℕ) where
-  narrow-low : b < limit → narrow rules limit b ≡ gives b
+  narrow_low : b < limit → narrow rules limit b ≡ gives b
   unfolding narrow
-  narrow-low h = rw (lt-ltb b limit h)
+  narrow_low h = rw (lt-ltb b limit h)
 
-  narrow-strict : limit ≤ b → rules.strict ≡ true → narrow rules limit b ≡ refuses 12
+  narrow_strict : limit ≤ b → rules.strict ≡ true → narrow rules limit b ≡ refuses 12
   unfolding narrow
-  narrow-strict h t = rw (le-ltb b limit h, t)
+  narrow_strict h t = rw (le-ltb b limit h, t)
 
-  narrow-lenient : limit ≤ b → rules.strict ≡ false → narrow rules limit b ≡ gives (b % limit)
+  narrow_lenient : limit ≤ b → rules.strict ≡ false → narrow rules limit b ≡ gives (b % limit)
   unfolding narrow
-  narrow-lenient h t = rw (le-ltb b limit h, t)
+  narrow_lenient h t = rw (le-ltb b limit h, t)
 
 -- of bytes that are bytes, and a range inside them
 module _ (rules : Rules) (s : List ℕ) (small : (i : ℕ) → get_or s i 0 < 256) (load : PayloadAt) (inside : load.span.start + load.span.length ≤ length s) where
@@ -96,12 +96,12 @@ module _ (rules : Rules) (s : List ℕ) (small : (i : ℕ) → get_or s i 0 < 25
   unfolding bytes_of
   part_length = length-take-le span.length (drop span.start s) (omega (arith, length-drop span.start s))
 
-  pub part-byte : (i : ℕ) → i < span.length → byte (bytes_of s span) i ≡ get_or s (span.start + i) 0
+  pub part_byte : (i : ℕ) → i < span.length → byte (bytes_of s span) i ≡ get_or s (span.start + i) 0
   unfolding bytes_of
-  part-byte i h = rw (get_or-take span.length (drop span.start s) i 0 h, get_or-drop span.start s i 0) (mod-eq_of_lt (small (span.start + i)))
+  part_byte i h = rw (get_or-take span.length (drop span.start s) i 0 h, get_or-drop span.start s i 0) (mod-eq_of_lt (small (span.start + i)))
 
-  pub part-first : 0 < span.length → byte (bytes_of s span) 0 ≡ get_or s span.start 0
-  part-first h = rw add-zero at (part-byte 0 h)
+  pub part_first : 0 < span.length → byte (bytes_of s span) 0 ≡ get_or s span.start 0
+  part_first h = rw add-zero at (part_byte 0 h)
 
   -- a message of that payload
   abbrev pub told : Meta Span → Answer MetaAt
@@ -111,9 +111,9 @@ module _ (rules : Rules) (s : List ℕ) (small : (i : ℕ) → get_or s i 0 < 25
   unfolding called_at
   called_is t m e = rw e
 
-  pub called-text : (t : ℕ) → 1 ≤ t → t ≤ 9 → told (text t span) ≡ called_at rules s t load
+  pub called_text : (t : ℕ) → 1 ≤ t → t ≤ 9 → told (text t span) ≡ called_at rules s t load
   unfolding map_meta
-  called-text t h g = called_is t (text t (bytes_of s span)) (form-text rules (bytes_of s span) t h g)
+  called_text t h g = called_is t (text t (bytes_of s span)) (form_text rules (bytes_of s span) t h g)
 
   -- a type that is named from n bytes up
   module _ (t n : ℕ) (kind : Answer (Meta (List ℕ))) (form : called_meta rules t (bytes_of s span) ≡ from n t (bytes_of s span) kind) where
@@ -136,60 +136,60 @@ module _ (rules : Rules) (s : List ℕ) (small : (i : ℕ) → get_or s i 0 < 25
       (form : called_meta rules t (bytes_of s span) ≡ from 1 t (bytes_of s span) (and_then (narrow rules limit (byte (bytes_of s span) 0)) (λ c. gives (of c))))
       (some : 1 ≤ span.length) where
     first : byte (bytes_of s span) 0 ≡ get_or s span.start 0
-    first = part-first (omega arith)
+    first = part_first (omega arith)
 
     pub fits_low : get_or s span.start 0 < limit → told (map_meta (λ q. span) (of (get_or s span.start 0))) ≡ called_at rules s t load
-    fits_low h = enough t 1 _ form some (of (get_or s span.start 0)) (rw (first, narrow-low rules limit (get_or s span.start 0) h))
+    fits_low h = enough t 1 _ form some (of (get_or s span.start 0)) (rw (first, narrow_low rules limit (get_or s span.start 0) h))
 
     pub fits-lenient : limit ≤ get_or s span.start 0 → rules.strict ≡ false → told (map_meta (λ q. span) (of (get_or s span.start 0 % limit))) ≡ called_at rules s t load
-    fits-lenient h l = enough t 1 _ form some (of (get_or s span.start 0 % limit)) (rw (first, narrow-lenient rules limit (get_or s span.start 0) h l))
+    fits-lenient h l = enough t 1 _ form some (of (get_or s span.start 0 % limit)) (rw (first, narrow_lenient rules limit (get_or s span.start 0) h l))
 
     pub fits-strict : limit ≤ get_or s span.start 0 → rules.strict ≡ true → refuses 12 ≡ called_at rules s t load
-    fits-strict h l = enough-refused t 1 _ form some 12 (rw (first, narrow-strict rules limit (get_or s span.start 0) h l))
+    fits-strict h l = enough-refused t 1 _ form some 12 (rw (first, narrow_strict rules limit (get_or s span.start 0) h l))
 
   -- the kinds that look at several bytes
 
   abbrev at : ℕ → ℕ
   at i = get_or s (span.start + i) 0
 
-  pub called-number : 2 ≤ span.length → track_number (word (get_or s span.start 0) (at 1)) ≡ map_meta (λ q. span) (track_number_of (bytes_of s span))
+  pub called_number : 2 ≤ span.length → track_number (word (get_or s span.start 0) (at 1)) ≡ map_meta (λ q. span) (track_number_of (bytes_of s span))
   unfolding map_meta track_number_of
-  called-number h = rw (part_length, le-leb 2 span.length h, part-first (omega arith), part-byte 1 (omega arith))
+  called_number h = rw (part_length, le-leb 2 span.length h, part_first (omega arith), part_byte 1 (omega arith))
 
-  pub called-no-number : span.length < 2 → no_track_number ≡ map_meta (λ q. span) (track_number_of (bytes_of s span))
+  pub called_no_number : span.length < 2 → no_track_number ≡ map_meta (λ q. span) (track_number_of (bytes_of s span))
   unfolding map_meta track_number_of
-  called-no-number h = rw (part_length, lt-leb 2 span.length h)
+  called_no_number h = rw (part_length, lt-leb 2 span.length h)
 
-  pub called-tempo : 3 ≤ span.length → told (tempo (get_or s span.start 0 * 65536 + word (at 1) (at 2))) ≡ called_at rules s 0x51 load
+  pub called_tempo : 3 ≤ span.length → told (tempo (get_or s span.start 0 * 65536 + word (at 1) (at 2))) ≡ called_at rules s 0x51 load
   unfolding map_meta
-  called-tempo h =
-      ap (λ (v : ℕ). told (tempo v)) (omega (arith, part-first (omega arith), part-byte 1 (omega arith), part-byte 2 (omega arith)))
-      ∙ enough 0x51 3 (gives (tempo_of (bytes_of s span))) (form-tempo rules (bytes_of s span)) h (tempo_of (bytes_of s span)) refl
+  called_tempo h =
+      ap (λ (v : ℕ). told (tempo v)) (omega (arith, part_first (omega arith), part_byte 1 (omega arith), part_byte 2 (omega arith)))
+      ∙ enough 0x51 3 (gives (tempo_of (bytes_of s span))) (form_tempo rules (bytes_of s span)) h (tempo_of (bytes_of s span)) refl
 
-  pub called-signature : 4 ≤ span.length → told (time_signature (get_or s span.start 0) (at 1) (at 2) (at 3)) ≡ called_at rules s 0x58 load
+  pub called_signature : 4 ≤ span.length → told (time_signature (get_or s span.start 0) (at 1) (at 2) (at 3)) ≡ called_at rules s 0x58 load
   unfolding map_meta
-  called-signature h =
-      rw (← part-first (omega arith), ← part-byte 1 (omega arith), ← part-byte 2 (omega arith), ← part-byte 3 (omega arith))
-      (enough 0x58 4 (gives (signature_of (bytes_of s span))) (form-signature rules (bytes_of s span)) h (signature_of (bytes_of s span)) refl)
+  called_signature h =
+      rw (← part_first (omega arith), ← part_byte 1 (omega arith), ← part_byte 2 (omega arith), ← part_byte 3 (omega arith))
+      (enough 0x58 4 (gives (signature_of (bytes_of s span))) (form_signature rules (bytes_of s span)) h (signature_of (bytes_of s span)) refl)
 
-  pub called-key : 2 ≤ span.length → told (key_signature (signed_byte (get_or s span.start 0)) (not (eqb (at 1) 0))) ≡ called_at rules s 0x59 load
+  pub called_key : 2 ≤ span.length → told (key_signature (signed_byte (get_or s span.start 0)) (not (eqb (at 1) 0))) ≡ called_at rules s 0x59 load
   unfolding map_meta
-  called-key h =
-      rw (← part-first (omega arith), ← part-byte 1 (omega arith))
-      (called_is 0x59 (key_of (bytes_of s span)) (form-key rules (bytes_of s span) ∙ rw (part_length, le-leb 2 span.length h)))
+  called_key h =
+      rw (← part_first (omega arith), ← part_byte 1 (omega arith))
+      (called_is 0x59 (key_of (bytes_of s span)) (form_key rules (bytes_of s span) ∙ rw (part_length, le-leb 2 span.length h)))
 
-  pub called-short-key : span.length < 2 → refuses 14 ≡ called_at rules s 0x59 load
+  pub called_short_key : span.length < 2 → refuses 14 ≡ called_at rules s 0x59 load
   unfolding called_at
-  called-short-key h = rw (form-key rules (bytes_of s span), part_length, lt-leb 2 span.length h)
+  called_short_key h = rw (form_key rules (bytes_of s span), part_length, lt-leb 2 span.length h)
 
   -- a time, as it was answered
   module _ (h : 5 ≤ span.length) {a : Answer Time} (e : a ≡ time_of rules (get_or s span.start 0) (at 1) (at 2) (at 3) (at 4)) where
     answered : time_in rules (bytes_of s span) ≡ a
-    answered = rw (part-first (omega arith), part-byte 1 (omega arith), part-byte 2 (omega arith), part-byte 3 (omega arith), part-byte 4 (omega arith)) (sym e)
+    answered = rw (part_first (omega arith), part_byte 1 (omega arith), part_byte 2 (omega arith), part_byte 3 (omega arith), part_byte 4 (omega arith)) (sym e)
 
     pub called-time : {t : Time} → a ≡ gives t → told (smpte_offset t) ≡ called_at rules s 0x54 load
     unfolding map_meta
-    called-time {t} q = enough 0x54 5 _ (form-smpte rules (bytes_of s span)) h (smpte_offset t) (rw (answered, q))
+    called-time {t} q = enough 0x54 5 _ (form_smpte rules (bytes_of s span)) h (smpte_offset t) (rw (answered, q))
 
     pub called-no-time : {n : ℕ} → a ≡ refuses n → refuses n ≡ called_at rules s 0x54 load
-    called-no-time {n} q = enough-refused 0x54 5 _ (form-smpte rules (bytes_of s span)) h n (rw (answered, q))
+    called-no-time {n} q = enough-refused 0x54 5 _ (form_smpte rules (bytes_of s span)) h n (rw (answered, q))

@@ -27,19 +27,19 @@ pub ends_bare : {s load rest : List ℕ} → Ends s load rest → Ends s [] rest
 ends_bare {s} {load} {rest} h = record { before = h.before ++ load; whole = h.whole ∙ sym (append_assoc h.before load rest) }
 
 module _ (s load rest : List ℕ) (h : Ends s load rest) where
-  pub ends-length : length s ≡ length h.before + (length load + length rest)
-  ends-length = ap length h.whole ∙ simp length-append
+  pub ends_length : length s ≡ length h.before + (length load + length rest)
+  ends_length = ap length h.whole ∙ simp length-append
 
-  pub ends-tail : rest ≡ drop (length s - length rest) s
-  ends-tail =
-      let n = ends-length in
+  pub ends_tail : rest ≡ drop (length s - length rest) s
+  ends_tail =
+      let n = ends_length in
       sym
       (ap (drop (length s - length rest)) (h.whole ∙ sym (append_assoc h.before load rest))
       ∙ drop_at (h.before ++ load) rest (length s - length rest) (omega (arith, length-append h.before load)))
 
-  pub ends-load : load ≡ take (length load) (drop (length s - length rest - length load) s)
-  ends-load =
-      let n = ends-length in
+  pub ends_load : load ≡ take (length load) (drop (length s - length rest - length load) s)
+  ends_load =
+      let n = ends_length in
       sym
       (ap (λ (l : List ℕ). take (length load) (drop (length s - length rest - length load) l)) h.whole
       ∙ ap (take (length load)) (drop_at h.before (load ++ rest) (length s - length rest - length load) (omega arith))

@@ -20,10 +20,10 @@ use Rattle.smf.specs.Event.{Event, event, map_meta, map_kind, map_event, named, 
 use Rattle.smf.specs.Event.{meta_fits, kind_fits, Carried, nothing, owned, untold, meta_carries, carries, load_or, kind_load, is_named, misnamed, kind_misnamed, no_span, span_length, legal, encode_event}
 use Rattle.smf.proofs.Legal.{is_legal}
 use Rattle.smf.proofs.Answer.{pick_test, both, said_of, Alike, Gives}
-use Rattle.smf.proofs.Ends.{Ends, ends_bare, ends-length, ends-tail, ends-load}
-use Rattle.smf.proofs.Wire.{load_small, after_runs, raw_reads_back, Read, RawRead, raw-read, raw_event_length, ReadsAlike, raw-alike}
+use Rattle.smf.proofs.Ends.{Ends, ends_bare, ends_length, ends_tail, ends_load}
+use Rattle.smf.proofs.Wire.{load_small, after_runs, raw_reads_back, Read, RawRead, raw_read, raw_event_length, ReadsAlike, raw_alike}
 use Rattle.smf.proofs.Kind.{LegalKind, kind_called, kind_sound}
-use Rattle.smf.proofs.Named.{Named, raw_named, called-alike}
+use Rattle.smf.proofs.Named.{Named, raw_named, called_alike}
 
 -- what is legal of an event: its delta and its kind
 pub record Legal (rules : Rules) (e : Event (List ℕ)) : Type 0 where
@@ -90,17 +90,17 @@ ReadGood rules running s (refused n after) = Unit {0}
 
 module _ (rules : Rules) (running : ℕ) (s : List ℕ) where
   -- a name makes nothing longer
-  event-shorter : (t : Taken RawEvent) (k : Kind (List ℕ)) → Named rules t.value.raw k
+  event_shorter : (t : Taken RawEvent) (k : Kind (List ℕ)) → Named rules t.value.raw k
       → length (encode_event running (event t.value.delta k)) ≤ length (encode_raw_event running t.value)
   unfolding encode_event
-  event-shorter t k n =
+  event_shorter t k n =
       omega (arith, n.shorter running, raw_event_length running t.value, raw_event_length running (raw_event t.value.delta (raw_of k)))
 
-  named-read : (t : Taken RawEvent) → Read rules running s t → (a : Answer (Kind (List ℕ))) → Gives (Named rules t.value.raw) a → ReadGood rules running s (named t a)
+  named_read : (t : Taken RawEvent) → Read rules running s t → (a : Answer (Kind (List ℕ))) → Gives (Named rules t.value.raw) a → ReadGood rules running s (named t a)
   unfolding named
-  named-read t r (refuses m) n = tt
-  named-read t r (gives k) n =
-      let short = event-shorter t k n in
+  named_read t r (refuses m) n = tt
+  named_read t r (gives k) n =
+      let short = event_shorter t k n in
       let small : length (kind_load [] k) < 2 ^ 28 =
       ⊎_elim (λ e. rw e (load_small t.value.raw r.sound)) (λ e. omega (arith, ap length e)) n.carries
       in
@@ -116,28 +116,28 @@ module _ (rules : Rules) (running : ℕ) (s : List ℕ) where
         padded = r.padded;
       }
 
-  raw-named-read : (a : Reading (Taken RawEvent)) → RawRead rules running s a → ReadGood rules running s (name_raw rules a)
+  raw_named_read : (a : Reading (Taken RawEvent)) → RawRead rules running s a → ReadGood rules running s (name_raw rules a)
   unfolding name_raw
-  raw-named-read (refused n after) r = tt
-  raw-named-read (reads t) r = named-read t r (called rules t.value.raw) (raw_named rules t.value.raw r.sound)
+  raw_named_read (refused n after) r = tt
+  raw_named_read (reads t) r = named_read t r (called rules t.value.raw) (raw_named rules t.value.raw r.sound)
 
-  event-good : ReadGood rules running s (read_event rules running s)
+  event_good : ReadGood rules running s (read_event rules running s)
   unfolding read_event
-  event-good = raw-named-read (read_raw rules running s) (raw-read rules running s)
+  event_good = raw_named_read (read_raw rules running s) (raw_read rules running s)
 
 module _ (rules : Rules) (running : ℕ) (s : List ℕ) (t : Taken (Event (List ℕ))) (read : read_event rules running s ≡ reads t) where
   pub event_read : EventRead rules running s t
-  event_read = subst (ReadGood rules running s) read (event-good rules running s)
+  event_read = subst (ReadGood rules running s) read (event_good rules running s)
 
   pub one_fewer : length (encode_event running t.value) + length t.rest ≤ length s + 1
   one_fewer = ⊎_elim (λ f. omega arith) (λ f. omega (arith, ap length f.0, f.1)) event_read.fewest
 
   -- what is left is the end of the bytes, and the payload stands right before it
-  pub read-tail : t.rest ≡ drop (length s - length t.rest) s
-  read-tail = ends-tail s (kind_load [] t.value.kind) t.rest event_read.ends
+  pub read_tail : t.rest ≡ drop (length s - length t.rest) s
+  read_tail = ends_tail s (kind_load [] t.value.kind) t.rest event_read.ends
 
-  pub read-payload : let p = kind_load [] t.value.kind in p ≡ take (length p) (drop (length s - length t.rest - length p) s)
-  read-payload = ends-load s (kind_load [] t.value.kind) t.rest event_read.ends
+  pub read_payload_lem : let p = kind_load [] t.value.kind in p ≡ take (length p) (drop (length s - length t.rest - length p) s)
+  read_payload_lem = ends_load s (kind_load [] t.value.kind) t.rest event_read.ends
 
 -- Records: a payload as start and length
 
@@ -146,41 +146,41 @@ module _ (s : List ℕ) (end : ℕ) where
   abbrev Stands : List ℕ → Type 0
   Stands p = take (length p) (drop (end - length p) s) ≡ p
 
-  meta-placed : (m : Meta (List ℕ)) → Stands (load_or [] (meta_carries m)) → map_meta (bytes_of s) (map_meta (span_before end) m) ≡ m
+  meta_placed_lem : (m : Meta (List ℕ)) → Stands (load_or [] (meta_carries m)) → map_meta (bytes_of s) (map_meta (span_before end) m) ≡ m
   unfolding map_meta meta_carries bytes_of
-  meta-placed (track_number n) h = refl
-  meta-placed no_track_number h = refl
-  meta-placed (text t p) h = rw h
-  meta-placed (midi_channel c) h = refl
-  meta-placed (midi_port c) h = refl
-  meta-placed end_of_track h = refl
-  meta-placed (tempo v) h = refl
-  meta-placed (smpte_offset time) h = refl
-  meta-placed (time_signature a b c d) h = refl
-  meta-placed (key_signature sharps minor) h = refl
-  meta-placed (sequencer_specific p) h = rw h
-  meta-placed (unknown t p) h = rw h
+  meta_placed_lem (track_number n) h = refl
+  meta_placed_lem no_track_number h = refl
+  meta_placed_lem (text t p) h = rw h
+  meta_placed_lem (midi_channel c) h = refl
+  meta_placed_lem (midi_port c) h = refl
+  meta_placed_lem end_of_track h = refl
+  meta_placed_lem (tempo v) h = refl
+  meta_placed_lem (smpte_offset time) h = refl
+  meta_placed_lem (time_signature a b c d) h = refl
+  meta_placed_lem (key_signature sharps minor) h = refl
+  meta_placed_lem (sequencer_specific p) h = rw h
+  meta_placed_lem (unknown t p) h = rw h
 
-  kind-placed : (k : Kind (List ℕ)) → Stands (kind_load [] k) → map_kind (bytes_of s) (map_kind (span_before end) k) ≡ k
+  kind_placed : (k : Kind (List ℕ)) → Stands (kind_load [] k) → map_kind (bytes_of s) (map_kind (span_before end) k) ≡ k
   unfolding map_kind carries bytes_of
-  kind-placed (midi channel m) h = refl
-  kind-placed (sys_ex p) h = rw h
-  kind-placed (escape p) h = rw h
-  kind-placed (meta m) h = ap meta (meta-placed m h)
+  kind_placed (midi channel m) h = refl
+  kind_placed (sys_ex p) h = rw h
+  kind_placed (escape p) h = rw h
+  kind_placed (meta m) h = ap meta (meta_placed_lem m h)
 
 module _ (rules : Rules) (running : ℕ) (s : List ℕ) (at : ℕ) (t : Taken (Event (List ℕ))) (read : read_event rules running (drop at s) ≡ reads t) where
   -- the record of an event that was read at a place is, over the bytes lent, the event
-  pub placed-itself : map_event (bytes_of s) (event_placed s at t).event ≡ t.value
+  pub placed_itself : map_event (bytes_of s) (event_placed s at t).event ≡ t.value
   unfolding map_event
-  placed-itself =
+  placed_itself =
       let e = event_read rules running (drop at s) t read in
       let p = kind_load [] t.value.kind in
-      let n = ends-length (drop at s) p t.rest e.ends in
+      let n = ends_length (drop at s) p t.rest e.ends in
       let start : at + (length (drop at s) - length t.rest - length p) ≡ place_of s at t.rest - length p = omega arith in
       let stands : take (length p) (drop (place_of s at t.rest - length p) s) ≡ p =
-      sym (read-payload rules running (drop at s) t read ∙ ap (take (length p)) (drop-drop (length (drop at s) - length t.rest - length p) at s ∙ ap (λ (x : ℕ). drop x s) start))
+      sym (read_payload_lem rules running (drop at s) t read ∙ ap (take (length p)) (drop-drop (length (drop at s) - length t.rest - length p) at s ∙ ap (λ (x : ℕ). drop x s) start))
       in
-      ap (event t.value.delta) (kind-placed s (place_of s at t.rest) t.value.kind stands)
+      ap (event t.value.delta) (kind_placed s (place_of s at t.rest) t.value.kind stands)
 
 -- what is known of an event that was read at a place: its record is, over the bytes lent, the event that they hold there,
 -- and what is left begins as many bytes on as were used, some, and within the bytes
@@ -201,9 +201,9 @@ event_reached rules running s at = by (read_event rules running (drop at s)) ref
   by (refused n after) e = (e, refl, refl)
   by (reads t) e =
       let past = (event_read rules running (drop at s) t e).past in
-      let tail : t.rest ≡ drop (at + (length (drop at s) - length t.rest)) s = read-tail rules running (drop at s) t e ∙ drop-drop (length (drop at s) - length t.rest) at s in
+      let tail : t.rest ≡ drop (at + (length (drop at s) - length t.rest)) s = read_tail rules running (drop at s) t e ∙ drop-drop (length (drop at s) - length t.rest) at s in
       record {
-        read = e ∙ rw (placed-itself rules running s at t e, ← tail) refl;
+        read = e ∙ rw (placed_itself rules running s at t e, ← tail) refl;
         some = omega arith;
         within = omega (arith, length-drop at s);
         padded = omega (arith, (event_read rules running (drop at s) t e).padded);
@@ -217,14 +217,14 @@ named_alike t (gives k) b h = rw h
 named_alike t (refuses n) b h = tt
 
 module _ (rules : Rules) (running : ℕ) (s : List ℕ) where
-  raw-named-alike : (a b : Reading (Taken RawEvent)) → ReadsAlike a b → ReadsAlike (name_raw rules a) (name_raw (leniently rules) b)
+  raw_named_alike : (a b : Reading (Taken RawEvent)) → ReadsAlike a b → ReadsAlike (name_raw rules a) (name_raw (leniently rules) b)
   unfolding name_raw
-  raw-named-alike (reads t) b h = rw h (named_alike t (called rules t.value.raw) (called (leniently rules) t.value.raw) (called-alike rules t.value.raw))
-  raw-named-alike (refused n after) b h = tt
+  raw_named_alike (reads t) b h = rw h (named_alike t (called rules t.value.raw) (called (leniently rules) t.value.raw) (called_alike rules t.value.raw))
+  raw_named_alike (refused n after) b h = tt
 
-  pub event-alike : ReadsAlike (read_event rules running s) (read_event (leniently rules) running s)
+  pub event_alike : ReadsAlike (read_event rules running s) (read_event (leniently rules) running s)
   unfolding read_event
-  event-alike = raw-named-alike (read_raw rules running s) (read_raw (leniently rules) running s) (raw-alike rules running s)
+  event_alike = raw_named_alike (read_raw rules running s) (read_raw (leniently rules) running s) (raw_alike rules running s)
 
 -- and so at a place
 abbrev pub AlikeAt : ReadAt → ReadAt → Type 0
@@ -238,7 +238,7 @@ placed_alike s at (refused n after) b h = tt
 
 pub event_at_alike : (rules : Rules) (running : ℕ) (s : List ℕ) (at : ℕ) → AlikeAt (event_at rules running s at) (event_at (leniently rules) running s at)
 unfolding event_at
-event_at_alike rules running s at = placed_alike s at (read_event rules running (drop at s)) (read_event (leniently rules) running (drop at s)) (event-alike rules running (drop at s))
+event_at_alike rules running s at = placed_alike s at (read_event rules running (drop at s)) (read_event (leniently rules) running (drop at s)) (event_alike rules running (drop at s))
 
 -- When a record is legal
 
@@ -302,9 +302,9 @@ load_over {P} f none k = rw (carries_over f k) (by (carries k)) where
   by (untold t p) = refl
 
 module _ (rules : Rules) {P Q : Type 0} (f : P → Q) (size : Q → ℕ) (size' : P → ℕ) (none : P) where
-  misnamed-over : (k : Kind P) → size (f (kind_load none k)) ≡ size' (kind_load none k) → kind_misnamed rules size (map_kind f k) ≡ kind_misnamed rules size' k
+  misnamed_over : (k : Kind P) → size (f (kind_load none k)) ≡ size' (kind_load none k) → kind_misnamed rules size (map_kind f k) ≡ kind_misnamed rules size' k
   unfolding map_carried
-  misnamed-over k h = rw (carries_over f k) (by (carries k) h) where
+  misnamed_over k h = rw (carries_over f k) (by (carries k) h) where
     by : (c : Carried P) → size (f (load_or none c)) ≡ size' (load_or none c) → misnamed rules size (map_carried f c) ≡ misnamed rules size' c
     by nothing h = refl
     by (owned p) h = refl
@@ -330,32 +330,32 @@ module _ (rules : Rules) (bytes : List ℕ) (e : Event Span) where
   proper = not (kind_misnamed rules span_length e.kind)
 
   -- where its range is inside, they are those of the event that it is over the bytes
-  tests-over : within ≡ true → is_legal rules (map_event (bytes_of bytes) e) ≡ (fit && short && proper)
+  tests_over : within ≡ true → is_legal rules (map_event (bytes_of bytes) e) ≡ (fit && short && proper)
   unfolding is_legal map_event bytes_of
-  tests-over h =
+  tests_over h =
       let n = inside_length bytes (kind_load no_span e.kind) h in
-      rw (fits_over rules (bytes_of bytes) e.kind, load_over (bytes_of bytes) no_span e.kind, n, misnamed-over rules (bytes_of bytes) length span_length no_span e.kind n)
+      rw (fits_over rules (bytes_of bytes) e.kind, load_over (bytes_of bytes) no_span e.kind, n, misnamed_over rules (bytes_of bytes) length span_length no_span e.kind n)
 
   abbrev Over : Event (List ℕ) → Type 0
   Over l = (within ≡ true) × (is_legal rules (map_event (bytes_of bytes) e) ≡ true) × (l ≡ map_event (bytes_of bytes) e)
 
-  legal-over : Gives Over (legal rules bytes e)
+  legal_over : Gives Over (legal rules bytes e)
   unfolding legal
-  legal-over =
+  legal_over =
       let P = Gives Over in
       pick_test P fit
       (λ f. pick_test P within
-      (λ w. pick_test P short (λ s. pick_test P proper (λ o. (w, tests-over w ∙ rw (f, s, o), refl)) (λ _. tt)) (λ _. tt))
+      (λ w. pick_test P short (λ s. pick_test P proper (λ o. (w, tests_over w ∙ rw (f, s, o), refl)) (λ _. tt)) (λ _. tt))
       (λ _. tt))
       (λ _. tt)
 
-  over-legal : (l : Event (List ℕ)) → Over l → legal rules bytes e ≡ gives l
+  over_legal : (l : Event (List ℕ)) → Over l → legal rules bytes e ≡ gives l
   unfolding legal
-  over-legal l h =
-      let t = both (fit && short) proper (sym (tests-over h.0) ∙ h.1) in
+  over_legal l h =
+      let t = both (fit && short) proper (sym (tests_over h.0) ∙ h.1) in
       let u = both fit short t.0 in
       rw (u.0, h.0, u.1, t.1) (ap gives (sym h.2))
 
   -- a record is legal exactly when its range is inside the bytes lent and the event that it is over them is legal; and it gives that event
-  pub legal-exactly : (l : Event (List ℕ)) → (legal rules bytes e ≡ gives l) ↔ ((inside bytes (kind_load no_span e.kind) ≡ true) × (is_legal rules (map_event (bytes_of bytes) e) ≡ true) × (l ≡ map_event (bytes_of bytes) e))
-  legal-exactly l = (said_of (Gives Over) legal-over, over-legal l)
+  pub legal_exactly : (l : Event (List ℕ)) → (legal rules bytes e ≡ gives l) ↔ ((inside bytes (kind_load no_span e.kind) ≡ true) × (is_legal rules (map_event (bytes_of bytes) e) ≡ true) × (l ≡ map_event (bytes_of bytes) e))
+  legal_exactly l = (said_of (Gives Over) legal_over, over_legal l)

@@ -112,13 +112,13 @@ pub record TimingRead (high low : ℕ) (t : Timing) : Type 0 where
   pub bytes : timing_bytes t ≡ high ∷ low ∷ []
 
 module _ (high low : ℕ) (hh : high < 256) (hl : low < 256) where
-  metrical-read : high < 128 → TimingRead high low (metrical (word high low))
+  metrical_read : high < 128 → TimingRead high low (metrical (word high low))
   unfolding is_timing timing_bytes
-  metrical-read h = record { legal = lt-ltb (word high low) 32768 (omega arith); bytes = bytes_back high low hl }
+  metrical_read h = record { legal = lt-ltb (word high low) 32768 (omega arith); bytes = bytes_back high low hl }
 
-  timecode-read : 128 ≤ high → is_rate (256 - high) ≡ true → TimingRead high low (timecode (256 - high) low)
+  timecode_read : 128 ≤ high → is_rate (256 - high) ≡ true → TimingRead high low (timecode (256 - high) low)
   unfolding is_timing timing_bytes
-  timecode-read h is =
+  timecode_read h is =
       let back : 256 - (256 - high) ≡ high = omega arith in
       record { legal = rw (is, lt-ltb low 256 hl); bytes = rw back }
 
@@ -127,8 +127,8 @@ module _ (high low : ℕ) (hh : high < 256) (hl : low < 256) where
   timing_read more {t} e =
       by-lt high 128
       (λ h. let told : gives (metrical (word high low)) ≡ gives t = rw (lt-ltb high 128 h) at e in
-      subst (TimingRead high low) (cc) (metrical-read h))
+      subst (TimingRead high low) (cc) (metrical_read h))
       (λ h. let told = rw (le-ltb high 128 h) at e in
       by-test (is_rate (256 - high))
-      (λ is. let same : gives (timecode (256 - high) low) ≡ gives t = rw is at told in subst (TimingRead high low) (cc) (timecode-read h is))
+      (λ is. let same : gives (timecode (256 - high) low) ≡ gives t = rw is at told in subst (TimingRead high low) (cc) (timecode_read h is))
       (λ not. let z : ◌≡◌ {A = ℕ} 0 1 = cc in absurd (omega arith)))

@@ -43,52 +43,52 @@ halves upper channel h = record { low = omega arith; high = omega arith }
 
 module _ (channel : ℕ) (c : channel < 16) where
   -- with one data byte, and with two
-  one-called : (rules : Rules) (upper a : ℕ) → called rules (one (upper * 16 + channel) a) ≡ gives (midi channel (message_one upper a))
+  one_called : (rules : Rules) (upper a : ℕ) → called rules (one (upper * 16 + channel) a) ≡ gives (midi channel (message_one upper a))
   unfolding called
-  one-called rules upper a = let h = halves upper channel c in rw (h.low, h.high)
+  one_called rules upper a = let h = halves upper channel c in rw (h.low, h.high)
 
-  two-called : (rules : Rules) (upper a b : ℕ) → called rules (two (upper * 16 + channel) a b) ≡ gives (midi channel (message_two upper a b))
+  two_called : (rules : Rules) (upper a b : ℕ) → called rules (two (upper * 16 + channel) a b) ≡ gives (midi channel (message_two upper a b))
   unfolding called
-  two-called rules upper a b = let h = halves upper channel c in rw (h.low, h.high)
+  two_called rules upper a b = let h = halves upper channel c in rw (h.low, h.high)
 
-  message-called : (rules : Rules) (m : Message) → called rules (raw_message channel m) ≡ gives (midi channel m)
+  message_called : (rules : Rules) (m : Message) → called rules (raw_message channel m) ≡ gives (midi channel m)
   unfolding raw_message message_one message_two
-  message-called rules (note_off key vel) = two-called rules 0x8 key vel
-  message-called rules (note_on key vel) = two-called rules 0x9 key vel
-  message-called rules (aftertouch key vel) = two-called rules 0xA key vel
-  message-called rules (controller number value) = two-called rules 0xB number value
-  message-called rules (program_change program) = one-called rules 0xC program
-  message-called rules (channel_aftertouch vel) = one-called rules 0xD vel
-  message-called rules (pitch_bend raw) = two-called rules 0xE (raw % 128) (raw / 128) ∙ ap (λ (n : ℕ). gives (midi channel (pitch_bend n))) (omega arith)
+  message_called rules (note_off key vel) = two_called rules 0x8 key vel
+  message_called rules (note_on key vel) = two_called rules 0x9 key vel
+  message_called rules (aftertouch key vel) = two_called rules 0xA key vel
+  message_called rules (controller number value) = two_called rules 0xB number value
+  message_called rules (program_change program) = one_called rules 0xC program
+  message_called rules (channel_aftertouch vel) = one_called rules 0xD vel
+  message_called rules (pitch_bend raw) = two_called rules 0xE (raw % 128) (raw / 128) ∙ ap (λ (n : ℕ). gives (midi channel (pitch_bend n))) (omega arith)
 
   -- whose raw events are sound
-  upper-takes : (upper : ℕ) → takes_one (upper * 16 + channel) ≡ takes_one (upper * 16)
+  upper_takes : (upper : ℕ) → takes_one (upper * 16 + channel) ≡ takes_one (upper * 16)
   unfolding data_length
-  upper-takes upper =
+  upper_takes upper =
       let e : upper * 16 / 16 ≡ upper = omega arith in
       rw ((halves upper channel c).high, e)
 
-  status-channel : (upper : ℕ) → 8 ≤ upper → upper < 15 → Channel (upper * 16 + channel)
-  status-channel upper low high = record { low = omega arith; high = omega arith }
+  status_channel : (upper : ℕ) → 8 ≤ upper → upper < 15 → Channel (upper * 16 + channel)
+  status_channel upper low high = record { low = omega arith; high = omega arith }
 
-  one-sound : (upper a : ℕ) → 8 ≤ upper → upper < 15 → takes_one (upper * 16) ≡ true → a < 0x80 → Sound (one (upper * 16 + channel) a)
-  one-sound upper a low high o f = (status-channel upper low high, upper-takes upper ∙ o, f)
+  one_sound : (upper a : ℕ) → 8 ≤ upper → upper < 15 → takes_one (upper * 16) ≡ true → a < 0x80 → Sound (one (upper * 16 + channel) a)
+  one_sound upper a low high o f = (status_channel upper low high, upper_takes upper ∙ o, f)
 
-  two-sound : (upper a b : ℕ) → 8 ≤ upper → upper < 15 → takes_one (upper * 16) ≡ false → (a < 0x80) × (b < 0x80) → Sound (two (upper * 16 + channel) a b)
-  two-sound upper a b low high o f = (status-channel upper low high, upper-takes upper ∙ o, f.0, f.1)
+  two_sound : (upper a b : ℕ) → 8 ≤ upper → upper < 15 → takes_one (upper * 16) ≡ false → (a < 0x80) × (b < 0x80) → Sound (two (upper * 16 + channel) a b)
+  two_sound upper a b low high o f = (status_channel upper low high, upper_takes upper ∙ o, f.0, f.1)
 
   below : (a b : ℕ) → (ltb a 128 && ltb b 128) ≡ true → (a < 0x80) × (b < 0x80)
   below a b f = let g = both _ _ f in (ltb-true a 128 g.0, ltb-true b 128 g.1)
 
-  message-sound : (rules : Rules) (m : Message) → message_fits rules m ≡ true → Sound (raw_message channel m)
+  message_sound : (rules : Rules) (m : Message) → message_fits rules m ≡ true → Sound (raw_message channel m)
   unfolding raw_message message_fits data_length
-  message-sound rules (note_off key vel) f = two-sound 0x8 key vel (omega arith) (omega arith) refl (below key vel f)
-  message-sound rules (note_on key vel) f = two-sound 0x9 key vel (omega arith) (omega arith) refl (below key vel f)
-  message-sound rules (aftertouch key vel) f = two-sound 0xA key vel (omega arith) (omega arith) refl (below key vel f)
-  message-sound rules (controller number value) f = two-sound 0xB number value (omega arith) (omega arith) refl (below number value f)
-  message-sound rules (program_change program) f = one-sound 0xC program (omega arith) (omega arith) refl (ltb-true program 128 f)
-  message-sound rules (channel_aftertouch vel) f = one-sound 0xD vel (omega arith) (omega arith) refl (ltb-true vel 128 f)
-  message-sound rules (pitch_bend raw) f = let g = ltb-true raw 16384 f in two-sound 0xE (raw % 128) (raw / 128) (omega arith) (omega arith) refl (omega arith)
+  message_sound rules (note_off key vel) f = two_sound 0x8 key vel (omega arith) (omega arith) refl (below key vel f)
+  message_sound rules (note_on key vel) f = two_sound 0x9 key vel (omega arith) (omega arith) refl (below key vel f)
+  message_sound rules (aftertouch key vel) f = two_sound 0xA key vel (omega arith) (omega arith) refl (below key vel f)
+  message_sound rules (controller number value) f = two_sound 0xB number value (omega arith) (omega arith) refl (below number value f)
+  message_sound rules (program_change program) f = one_sound 0xC program (omega arith) (omega arith) refl (ltb-true program 128 f)
+  message_sound rules (channel_aftertouch vel) f = one_sound 0xD vel (omega arith) (omega arith) refl (ltb-true vel 128 f)
+  message_sound rules (pitch_bend raw) f = let g = ltb-true raw 16384 f in two_sound 0xE (raw % 128) (raw / 128) (omega arith) (omega arith) refl (omega arith)
 
 -- Meta messages
 
@@ -114,20 +114,20 @@ module _ (rules : Rules) (t : ℕ) (p : List ℕ) (unnamed : is_named rules t (l
   Itself a = a ≡ gives (unknown t p)
 
   -- at a type that is named from so many bytes up
-  short-itself : (u n : ℕ) (named : Answer (Meta (List ℕ))) → t ≡ u → (leb n (length p) ≡ true → is_named rules u (length p) ≡ true) → Itself (from n t p named)
-  short-itself u n named e h = pick_test Itself (leb n (length p)) (λ l. absurd (no_other u e (h l))) (λ l. refl)
+  short_itself : (u n : ℕ) (named : Answer (Meta (List ℕ))) → t ≡ u → (leb n (length p) ≡ true → is_named rules u (length p) ≡ true) → Itself (from n t p named)
+  short_itself u n named e h = pick_test Itself (leb n (length p)) (λ l. absurd (no_other u e (h l))) (λ l. refl)
 
-  pub unnamed-itself : called_meta rules t p ≡ gives (unknown t p)
+  pub unnamed_itself : called_meta rules t p ≡ gives (unknown t p)
   unfolding called_meta is_named
-  unnamed-itself =
+  unnamed_itself =
       pick_test Itself (eqb t 0x00) (λ e. absurd (no_other 0x00 (eqb-true t 0x00 e) refl))
       (λ _. pick_test Itself (is_text t) (λ e. absurd (no_other t refl (rw (le-leb t 0x09 (is_text_lem t e).1))))
-      (λ _. pick_test Itself (eqb t 0x20) (λ e. short-itself 0x20 1 _ (eqb-true t 0x20 e) (λ l. rw l))
-      (λ _. pick_test Itself (eqb t 0x21) (λ e. short-itself 0x21 1 _ (eqb-true t 0x21 e) (λ l. rw l))
+      (λ _. pick_test Itself (eqb t 0x20) (λ e. short_itself 0x20 1 _ (eqb-true t 0x20 e) (λ l. rw l))
+      (λ _. pick_test Itself (eqb t 0x21) (λ e. short_itself 0x21 1 _ (eqb-true t 0x21 e) (λ l. rw l))
       (λ _. pick_test Itself (eqb t 0x2F) (λ e. absurd (no_other 0x2F (eqb-true t 0x2F e) refl))
-      (λ _. pick_test Itself (eqb t 0x51) (λ e. short-itself 0x51 3 _ (eqb-true t 0x51 e) (λ l. rw l))
-      (λ _. pick_test Itself (eqb t 0x54) (λ e. short-itself 0x54 5 _ (eqb-true t 0x54 e) (λ l. rw l))
-      (λ _. pick_test Itself (eqb t 0x58) (λ e. short-itself 0x58 4 _ (eqb-true t 0x58 e) (λ l. rw l))
+      (λ _. pick_test Itself (eqb t 0x51) (λ e. short_itself 0x51 3 _ (eqb-true t 0x51 e) (λ l. rw l))
+      (λ _. pick_test Itself (eqb t 0x54) (λ e. short_itself 0x54 5 _ (eqb-true t 0x54 e) (λ l. rw l))
+      (λ _. pick_test Itself (eqb t 0x58) (λ e. short_itself 0x58 4 _ (eqb-true t 0x58 e) (λ l. rw l))
       (λ _. pick_test Itself (eqb t 0x59) (λ e. absurd (no_other 0x59 (eqb-true t 0x59 e) refl))
       (λ _. pick_test Itself (eqb t 0x7F) (λ e. absurd (no_other 0x7F (eqb-true t 0x7F e) refl)) (λ _. refl))))))))))
 
@@ -179,12 +179,12 @@ meta_called rules (time_signature a b c d) f o =
     rw (byte_own a f3.0, byte_own b f3.1, byte_own c f2.1, byte_own d f1.1)
 meta_called rules (key_signature sharps minor) f o = rw (sharps_own sharps (ltb-true (mag sharps) 128 f), minor_own minor)
 meta_called rules (sequencer_specific p) f o = refl
-meta_called rules (unknown t p) f o = rw (unnamed-itself rules t p o)
+meta_called rules (unknown t p) f o = rw (unnamed_itself rules t p o)
 
 -- a legal kind is called itself by its raw event, which is sound
 pub kind_called : (rules : Rules) (k : Kind (List ℕ)) → LegalKind rules k → called rules (raw_of k) ≡ gives k
 unfolding raw_of kind_fits carries called
-kind_called rules (midi channel m) l = let f = both _ _ l.fits in message-called channel (ltb-true channel 16 f.0) rules m
+kind_called rules (midi channel m) l = let f = both _ _ l.fits in message_called channel (ltb-true channel 16 f.0) rules m
 kind_called rules (sys_ex p) l = refl
 kind_called rules (escape p) l = refl
 kind_called rules (meta m) l = meta_called rules m l.fits l.own
@@ -206,7 +206,7 @@ meta_sound (unknown t p) h = h
 
 pub kind_sound : (rules : Rules) (k : Kind (List ℕ)) → LegalKind rules k → Sound (raw_of k)
 unfolding raw_of kind_fits carries
-kind_sound rules (midi channel m) l = let f = both _ _ l.fits in message-sound channel (ltb-true channel 16 f.0) rules m f.1
+kind_sound rules (midi channel m) l = let f = both _ _ l.fits in message_sound channel (ltb-true channel 16 f.0) rules m f.1
 kind_sound rules (sys_ex p) l = (inl refl, l.small)
 kind_sound rules (escape p) l = (inr refl, l.small)
 kind_sound rules (meta m) l = meta_sound m l.small

@@ -26,50 +26,50 @@ AllLegal rules [] = Unit {0}
 AllLegal rules (e ∷ es) = (is_legal rules e ≡ true) × AllLegal rules es
 
 module _ (rules : Rules) where
-  message-fits-strictly : (m : Message) → message_fits (strict_of rules) m ≡ message_fits rules m
+  message_fits_strictly : (m : Message) → message_fits (strict_of rules) m ≡ message_fits rules m
   unfolding message_fits
-  message-fits-strictly (note_off key vel) = refl
-  message-fits-strictly (note_on key vel) = refl
-  message-fits-strictly (aftertouch key vel) = refl
-  message-fits-strictly (controller number value) = refl
-  message-fits-strictly (program_change program) = refl
-  message-fits-strictly (channel_aftertouch vel) = refl
-  message-fits-strictly (pitch_bend raw) = refl
+  message_fits_strictly (note_off key vel) = refl
+  message_fits_strictly (note_on key vel) = refl
+  message_fits_strictly (aftertouch key vel) = refl
+  message_fits_strictly (controller number value) = refl
+  message_fits_strictly (program_change program) = refl
+  message_fits_strictly (channel_aftertouch vel) = refl
+  message_fits_strictly (pitch_bend raw) = refl
 
-  meta-fits-strictly : {P : Type 0} (m : Meta P) → meta_fits (strict_of rules) m ≡ meta_fits rules m
+  meta_fits_strictly : {P : Type 0} (m : Meta P) → meta_fits (strict_of rules) m ≡ meta_fits rules m
   unfolding meta_fits is_time
-  meta-fits-strictly (track_number n) = refl
-  meta-fits-strictly no_track_number = refl
-  meta-fits-strictly (text t p) = refl
-  meta-fits-strictly (midi_channel c) = refl
-  meta-fits-strictly (midi_port c) = refl
-  meta-fits-strictly end_of_track = refl
-  meta-fits-strictly (tempo v) = refl
-  meta-fits-strictly (smpte_offset time) = refl
-  meta-fits-strictly (time_signature a b c d) = refl
-  meta-fits-strictly (key_signature sharps minor) = refl
-  meta-fits-strictly (sequencer_specific p) = refl
-  meta-fits-strictly (unknown t p) = refl
+  meta_fits_strictly (track_number n) = refl
+  meta_fits_strictly no_track_number = refl
+  meta_fits_strictly (text t p) = refl
+  meta_fits_strictly (midi_channel c) = refl
+  meta_fits_strictly (midi_port c) = refl
+  meta_fits_strictly end_of_track = refl
+  meta_fits_strictly (tempo v) = refl
+  meta_fits_strictly (smpte_offset time) = refl
+  meta_fits_strictly (time_signature a b c d) = refl
+  meta_fits_strictly (key_signature sharps minor) = refl
+  meta_fits_strictly (sequencer_specific p) = refl
+  meta_fits_strictly (unknown t p) = refl
 
-  kind-fits-strictly : {P : Type 0} (k : Kind P) → kind_fits (strict_of rules) k ≡ kind_fits rules k
+  kind_fits_strictly : {P : Type 0} (k : Kind P) → kind_fits (strict_of rules) k ≡ kind_fits rules k
   unfolding kind_fits
-  kind-fits-strictly (midi channel m) = rw (message-fits-strictly m)
-  kind-fits-strictly (sys_ex p) = refl
-  kind-fits-strictly (escape p) = refl
-  kind-fits-strictly (meta m) = meta-fits-strictly m
+  kind_fits_strictly (midi channel m) = rw (message_fits_strictly m)
+  kind_fits_strictly (sys_ex p) = refl
+  kind_fits_strictly (escape p) = refl
+  kind_fits_strictly (meta m) = meta_fits_strictly m
 
-  misnamed-strictly : {P : Type 0} (size : P → ℕ) (c : Carried P) → misnamed (strict_of rules) size c ≡ misnamed rules size c
+  misnamed_strictly : {P : Type 0} (size : P → ℕ) (c : Carried P) → misnamed (strict_of rules) size c ≡ misnamed rules size c
   unfolding is_named
-  misnamed-strictly size nothing = refl
-  misnamed-strictly size (owned p) = refl
-  misnamed-strictly size (untold t p) = refl
+  misnamed_strictly size nothing = refl
+  misnamed_strictly size (owned p) = refl
+  misnamed_strictly size (untold t p) = refl
 
   -- an event is legal under strict rules exactly when it is legal under the same rules, strict or not
-  pub legal-strictly : (e : Event (List ℕ)) → is_legal (strict_of rules) e ≡ is_legal rules e
+  pub legal_strictly : (e : Event (List ℕ)) → is_legal (strict_of rules) e ≡ is_legal rules e
   unfolding is_legal
-  legal-strictly e = rw (kind-fits-strictly e.kind, misnamed-strictly length (carries e.kind))
+  legal_strictly e = rw (kind_fits_strictly e.kind, misnamed_strictly length (carries e.kind))
 
   -- and so are all of a list
-  pub all-strictly : (es : List (Event (List ℕ))) → AllLegal rules es → AllLegal (strict_of rules) es
-  all-strictly [] h = tt
-  all-strictly (e ∷ es) h = (legal-strictly e ∙ h.0, all-strictly es h.1)
+  pub all_strictly : (es : List (Event (List ℕ))) → AllLegal rules es → AllLegal (strict_of rules) es
+  all_strictly [] h = tt
+  all_strictly (e ∷ es) h = (legal_strictly e ∙ h.0, all_strictly es h.1)

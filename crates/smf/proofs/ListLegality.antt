@@ -12,7 +12,7 @@ use Rattle.smf.specs.Answer.{Answer, gives, refuses, Rules}
 use Rattle.smf.specs.Place.{Span, bytes_of}
 use Rattle.smf.specs.Event.{Event, map_event, legal}
 use Rattle.smf.specs.Lists.{records_judged, Checked, all_legal, illegal, with_event, check_on, check, listed}
-use Rattle.smf.proofs.Event.{legal-exactly}
+use Rattle.smf.proofs.Event.{legal_exactly}
 use Rattle.smf.proofs.Legal.{is_legal, AllLegal}
 
 -- those before the k-th are legal, and it is refused by n
@@ -135,24 +135,24 @@ lawful_take rules (suc i) (a ∷ others) h = (h.0, lawful_take rules i others h.
 
 module _ (rules : Rules) (bytes : List ℕ) where
   -- a legal record gives the event that it is over the bytes, and that is legal
-  pub given-itself : (e : Event Span) (l : Event (List ℕ)) → legal rules bytes e ≡ gives l → (l ≡ map_event (bytes_of bytes) e) × (is_legal rules l ≡ true)
-  given-itself e l h = let x = (legal-exactly rules bytes e l).0 h in (x.2, rw x.2 x.1)
+  pub given_itself : (e : Event Span) (l : Event (List ℕ)) → legal rules bytes e ≡ gives l → (l ≡ map_event (bytes_of bytes) e) × (is_legal rules l ≡ true)
+  given_itself e l h = let x = (legal_exactly rules bytes e l).0 h in (x.2, rw x.2 x.1)
 
-  pub records-lawful : (records : List (Event Span)) → Lawful rules (records_judged rules bytes records)
-  records-lawful [] = tt
-  records-lawful (r ∷ rs) = ((λ e h. (given-itself r e h).1), records-lawful rs)
+  pub records_lawful : (records : List (Event Span)) → Lawful rules (records_judged rules bytes records)
+  records_lawful [] = tt
+  records_lawful (r ∷ rs) = ((λ e h. (given_itself r e h).1), records_lawful rs)
 
   -- records that are legal are the events that they are over the bytes
-  pub records-themselves : (count : ℕ) (records : List (Event Span)) (es : List (Event (List ℕ))) → take count (records_judged rules bytes records) ≡ map gives es
+  pub records_themselves : (count : ℕ) (records : List (Event Span)) (es : List (Event (List ℕ))) → take count (records_judged rules bytes records) ≡ map gives es
       → es ≡ listed bytes records count
-  records-themselves zero [] [] h = refl
-  records-themselves zero (r ∷ rs) [] h = refl
-  records-themselves zero [] (e ∷ es) h = absurd (omega (arith, ap length h))
-  records-themselves zero (r ∷ rs) (e ∷ es) h = absurd (omega (arith, ap length h))
-  records-themselves (suc n) [] [] h = refl
-  records-themselves (suc n) [] (e ∷ es) h = absurd (omega (arith, ap length h))
-  records-themselves (suc n) (r ∷ rs) [] h = absurd (omega (arith, ap length h))
-  records-themselves (suc n) (r ∷ rs) (e ∷ es) h =
+  records_themselves zero [] [] h = refl
+  records_themselves zero (r ∷ rs) [] h = refl
+  records_themselves zero [] (e ∷ es) h = absurd (omega (arith, ap length h))
+  records_themselves zero (r ∷ rs) (e ∷ es) h = absurd (omega (arith, ap length h))
+  records_themselves (suc n) [] [] h = refl
+  records_themselves (suc n) [] (e ∷ es) h = absurd (omega (arith, ap length h))
+  records_themselves (suc n) (r ∷ rs) [] h = absurd (omega (arith, ap length h))
+  records_themselves (suc n) (r ∷ rs) (e ∷ es) h =
       let q : legal rules bytes r ≡ gives e = cc in
       let behind : take n (records_judged rules bytes rs) ≡ map gives es = cc in
-      rw (given-itself r e q).0 (ap (λ (l : List (Event (List ℕ))). map_event (bytes_of bytes) r ∷ l) (records-themselves n rs es behind))
+      rw (given_itself r e q).0 (ap (λ (l : List (Event (List ℕ))). map_event (bytes_of bytes) r ∷ l) (records_themselves n rs es behind))

@@ -35,10 +35,10 @@ module _ (most running : ℕ) (judged : List (Answer (Event (List ℕ)))) (count
   abbrev Good : ListWritten → Type 0
   Good w = Says w w.answer
 
-  checked-says : is_running running ≡ true → count ≤ most → (c : Checked) → check 0 (take count judged) ≡ c → Good (write_checked running buffer c)
+  checked_says : is_running running ≡ true → count ≤ most → (c : Checked) → check 0 (take count judged) ≡ c → Good (write_checked running buffer c)
   unfolding write_checked list_put
-  checked-says is few (illegal n i) e = (refl, refl)
-  checked-says is few (all_legal es) e =
+  checked_says is few (illegal n i) e = (refl, refl)
+  checked_says is few (all_legal es) e =
       let h = (check_legal 0 (take count judged) es).0 e in
       pick_test Good (leb (length (encode_list running es)) (length buffer))
       (λ t. record { valid = is; few = few; events = es; legal = h; size = refl; room = leb-true _ _ t; front = refl; after = refl })
@@ -48,36 +48,36 @@ module _ (most running : ℕ) (judged : List (Answer (Event (List ℕ)))) (count
   unfolding write_list
   says =
       pick_test Good (is_running running)
-      (λ is. pick_test Good (leb count most) (λ few. checked-says is (leb-true _ _ few) (check 0 (take count judged)) refl) (λ _. (refl, refl)))
+      (λ is. pick_test Good (leb count most) (λ few. checked_says is (leb-true _ _ few) (check 0 (take count judged)) refl) (λ _. (refl, refl)))
       (λ _. (refl, refl))
 
-  pub write-wrote : (n : ℕ) → (write_list most running judged count buffer).answer ≡ wrote n → Wrote (write_list most running judged count buffer) n
-  write-wrote n e = subst (Says (write_list most running judged count buffer)) e says
+  pub write_wrote : (n : ℕ) → (write_list most running judged count buffer).answer ≡ wrote n → Wrote (write_list most running judged count buffer) n
+  write_wrote n e = subst (Says (write_list most running judged count buffer)) e says
 
   -- a refused write leaves the buffer and the running status as they came
-  pub write-refused : (n i : ℕ) → (write_list most running judged count buffer).answer ≡ refuses_at n i
+  pub write_refused : (n i : ℕ) → (write_list most running judged count buffer).answer ≡ refuses_at n i
       → ((write_list most running judged count buffer).buffer ≡ buffer) × ((write_list most running judged count buffer).running ≡ running)
-  write-refused n i e = subst (Says (write_list most running judged count buffer)) e says
+  write_refused n i e = subst (Says (write_list most running judged count buffer)) e says
 
   -- which number, in the order of the refusals
 
-  pub write-invalid : is_running running ≡ false → write_list most running judged count buffer ≡ list_left running buffer 1 0
+  pub write_invalid : is_running running ≡ false → write_list most running judged count buffer ≡ list_left running buffer 1 0
   unfolding write_list
-  write-invalid is = rw is
+  write_invalid is = rw is
 
-  pub write-many : is_running running ≡ true → most < count → write_list most running judged count buffer ≡ list_left running buffer 21 0
+  pub write_many : is_running running ≡ true → most < count → write_list most running judged count buffer ≡ list_left running buffer 21 0
   unfolding write_list
-  write-many is many = rw (is, lt-leb _ _ many)
+  write_many is many = rw (is, lt-leb _ _ many)
 
-  pub write-illegal : {n i : ℕ} → is_running running ≡ true → count ≤ most → check 0 (take count judged) ≡ illegal n i
+  pub write_illegal : {n i : ℕ} → is_running running ≡ true → count ≤ most → check 0 (take count judged) ≡ illegal n i
       → write_list most running judged count buffer ≡ list_left running buffer n i
   unfolding write_list write_checked
-  write-illegal is few e = rw (is, le-leb _ _ few, e)
+  write_illegal is few e = rw (is, le-leb _ _ few, e)
 
   module _ (is : is_running running ≡ true) (few : count ≤ most) (es : List (Event (List ℕ))) (legal : take count judged ≡ map gives es) where
-    pub write-full : length buffer < length (encode_list running es) → write_list most running judged count buffer ≡ list_left running buffer 20 0
+    pub write_full : length buffer < length (encode_list running es) → write_list most running judged count buffer ≡ list_left running buffer 20 0
     unfolding write_list write_checked list_put
-    write-full long = rw (is, le-leb _ _ few, legal, check_given 0 es, lt-leb _ _ long)
+    write_full long = rw (is, le-leb _ _ few, legal, check_given 0 es, lt-leb _ _ long)
 
     -- and what makes it accepted
     pub write-fits : length (encode_list running es) ≤ length buffer

@@ -90,28 +90,28 @@ called_carries rules t p =
 -- what a meta message at a place is, by its type byte and its payload
 
 module _ (rules : Rules) (s : List ℕ) (at : ℕ) where
-  pub meta-missing : length s ≤ at → meta_at rules s at ≡ refuses 10
+  pub meta_missing : length s ≤ at → meta_at rules s at ≡ refuses 10
   unfolding meta_at read_meta_message
-  meta-missing h = rw (drop_of_length-le s h)
+  meta_missing h = rw (drop_of_length-le s h)
 
   -- from the type byte on
   typed_at : at < length s → read_meta_message rules (drop at s) ≡ and_then (read_payload rules (drop (at + 1) s)) (meta_named rules (get_or s at 0))
   unfolding read_meta_message
   typed_at h = rw (add-one at, drop-cons s at 0 h)
 
-  pub meta-refused : at < length s → {n : ℕ} → payload_at rules s (at + 1) ≡ refuses n → meta_at rules s at ≡ refuses n
+  pub meta_refused : at < length s → {n : ℕ} → payload_at rules s (at + 1) ≡ refuses n → meta_at rules s at ≡ refuses n
   unfolding meta_at
-  meta-refused h {n} e =
+  meta_refused h {n} e =
       let r : read_payload rules (drop (at + 1) s) ≡ refuses n = said_refused (PayloadReached rules s (at + 1)) (payload_reached rules s (at + 1) (omega arith)) e in
       rw (typed_at h, r)
 
   -- the place and the payload of what was called
-  called-placed : (span : Span) (padding : ℕ) (p : List ℕ) → at ≤ span.start → end_of span ≤ length s → length p ≡ span.length
+  called_placed : (span : Span) (padding : ℕ) (p : List ℕ) → at ≤ span.start → end_of span ≤ length s → length p ≡ span.length
       → (a : Answer (Meta (List ℕ))) → Carries p a
       → and_then (and_then a (λ m. gives (record { message = m; rest = drop (end_of span) s; padding = padding }))) (λ (t : MetaTaken). gives (meta_placed s at t))
       ≡ and_then a (λ m. gives (record { message = map_meta (λ q. span) m; next = end_of span; padding = padding }))
-  called-placed span padding p h g len (refuses n) c = refl
-  called-placed span padding p h g len (gives m) c =
+  called_placed span padding p h g len (refuses n) c = refl
+  called_placed span padding p h g len (gives m) c =
       let e : place_of s at (drop (end_of span) s) ≡ end_of span = omega (arith, length-drop at s, length-drop (end_of span) s) in
       let b : end_of span - span.length ≡ span.start = omega arith in
       let f : span_before (end_of span) p ≡ span = rw (len, b) in
@@ -123,4 +123,4 @@ module _ (rules : Rules) (s : List ℕ) (at : ℕ) where
       let l : LoadedAt rules s (at + 1) p = said_of (PayloadReached rules s (at + 1)) (payload_reached rules s (at + 1) (omega arith)) e in
       let bytes = bytes_of s p.span in
       rw (typed_at h, l.read)
-      (called-placed p.span p.padding bytes (omega (arith, l.past)) l.inside l.long (called_meta rules (get_or s at 0) bytes) (called_carries rules (get_or s at 0) bytes))
+      (called_placed p.span p.padding bytes (omega (arith, l.past)) l.inside l.long (called_meta rules (get_or s at 0) bytes) (called_carries rules (get_or s at 0) bytes))

@@ -25,7 +25,7 @@ use Rattle.smf.proofs.Signed.{signed_low, signed_high}
 use Rattle.smf.proofs.Smpte.{time_length, time_read}
 use Rattle.smf.proofs.Running.{Channel}
 use Rattle.smf.proofs.Wire.{Sound, takes_one, load_of}
-use Rattle.smf.proofs.Kind.{past_text, unnamed-itself}
+use Rattle.smf.proofs.Kind.{past_text, unnamed_itself}
 
 -- What a raw event is called: a kind that fits, is no misnamed `Unknown`, carries the payload or none, leaves the same running status,
 -- and is no longer when it is written
@@ -53,9 +53,9 @@ module _ (rules : Rules) (status : ℕ) (c : Channel status) where
   upper : (u : ℕ) → eqb (status / 16) u ≡ true → u * 16 + status % 16 ≡ status
   upper u e = omega (arith, eqb-true (status / 16) u e)
 
-  one-said : (a : ℕ) → takes_one status ≡ true → a < 0x80 → Says rules status (one status a) (message_one (status / 16) a)
+  one_said : (a : ℕ) → takes_one status ≡ true → a < 0x80 → Says rules status (one status a) (message_one (status / 16) a)
   unfolding message_one message_fits raw_message data_length
-  one-said a o f =
+  one_said a o f =
       pick_test (Says rules status (one status a)) (eqb (status / 16) 0xC)
       (λ e. record { fits = lt-ltb a 128 f; back = ap (λ (n : ℕ). one n a) (upper 0xC e) })
       (λ n. record { fits = lt-ltb a 128 f; back = ap (λ (n : ℕ). one n a) (upper 0xD (by-test (eqb (status / 16) 0xD) (λ e. e) (λ g. absurd (true≢false (sym (rw (n, g) at o)))))) })
@@ -117,32 +117,32 @@ module _ (rules : Rules) (t : ℕ) (p : List ℕ) where
       let P = Gives (λ (c : ℕ). c < limit) in
       pick_test P (ltb b limit) (ltb-true b limit) (λ _. pick_test P rules.strict (λ _. tt) (λ _. mod-lt b h))
 
-  narrow-named : (limit : ℕ) (of : ℕ → Meta (List ℕ)) → 0 < limit → ((c : ℕ) → c < limit → MetaNamed (of c))
+  narrow_named : (limit : ℕ) (of : ℕ → Meta (List ℕ)) → 0 < limit → ((c : ℕ) → c < limit → MetaNamed (of c))
       → Gives MetaNamed (and_then (narrow rules limit (byte p 0)) (λ c. gives (of c)))
-  narrow-named limit of some h = then_gives (λ (c : ℕ). c < limit) MetaNamed _ (narrow rules limit (byte p 0)) (narrow_below limit (byte p 0) some) h
+  narrow_named limit of some h = then_gives (λ (c : ℕ). c < limit) MetaNamed _ (narrow rules limit (byte p 0)) (narrow_below limit (byte p 0) some) h
 
-  track-named : MetaNamed (track_number_of p)
+  track_named : MetaNamed (track_number_of p)
   unfolding meta_fits meta_carries raw_meta track_number_of
-  track-named =
+  track_named =
       pick_test MetaNamed (leb 2 (length p))
       (λ l. let n = byte p 0 * 256 + byte p 1 in needed (track_number n) 0x00 _ (lt-ltb n 65536 (omega arith)) refl refl refl (leb-true 2 (length p) l))
       (λ l. needed no_track_number 0x00 [] refl refl refl refl (omega arith))
 
-  channel-named : 1 ≤ length p → (c : ℕ) → c < 16 → MetaNamed (midi_channel c)
+  channel_named : 1 ≤ length p → (c : ℕ) → c < 16 → MetaNamed (midi_channel c)
   unfolding meta_fits meta_carries raw_meta
-  channel-named l c h = needed (midi_channel c) 0x20 (c ∷ []) (lt-ltb c 16 h) refl refl refl l
+  channel_named l c h = needed (midi_channel c) 0x20 (c ∷ []) (lt-ltb c 16 h) refl refl refl l
 
-  port-named : 1 ≤ length p → (c : ℕ) → c < 128 → MetaNamed (midi_port c)
+  port_named : 1 ≤ length p → (c : ℕ) → c < 128 → MetaNamed (midi_port c)
   unfolding meta_fits meta_carries raw_meta
-  port-named l c h = needed (midi_port c) 0x21 (c ∷ []) (lt-ltb c 128 h) refl refl refl l
+  port_named l c h = needed (midi_port c) 0x21 (c ∷ []) (lt-ltb c 128 h) refl refl refl l
 
-  tempo-named : 3 ≤ length p → MetaNamed (tempo_of p)
+  tempo_named : 3 ≤ length p → MetaNamed (tempo_of p)
   unfolding meta_fits meta_carries raw_meta
-  tempo-named l = let v = byte p 0 * 65536 + byte p 1 * 256 + byte p 2 in needed (tempo v) 0x51 _ (lt-ltb v 16777216 (omega arith)) refl refl refl l
+  tempo_named l = let v = byte p 0 * 65536 + byte p 1 * 256 + byte p 2 in needed (tempo v) 0x51 _ (lt-ltb v 16777216 (omega arith)) refl refl refl l
 
-  time-named : 5 ≤ length p → Gives MetaNamed (and_then (time_in rules p) (λ time. gives (smpte_offset time)))
+  time_named : 5 ≤ length p → Gives MetaNamed (and_then (time_in rules p) (λ time. gives (smpte_offset time)))
   unfolding meta_fits meta_carries raw_meta
-  time-named l =
+  time_named l =
       then_gives (λ (time : Time). is_time rules time ≡ true) MetaNamed _ (time_in rules p) time-legal
       (λ time is. needed (smpte_offset time) 0x54 (time_bytes time) is refl refl refl (omega (arith, time_length time))) where
         time-legal : Gives (λ (time : Time). is_time rules time ≡ true) (time_in rules p)
@@ -151,32 +151,32 @@ module _ (rules : Rules) (t : ℕ) (p : List ℕ) where
           by (gives time) e = (time_read rules (byte p 0) (byte p 1) (byte p 2) (byte p 3) (byte p 4) e).legal
           by (refuses n) e = tt
 
-  signature-named : 4 ≤ length p → MetaNamed (signature_of p)
+  signature_named : 4 ≤ length p → MetaNamed (signature_of p)
   unfolding meta_fits meta_carries raw_meta
-  signature-named l =
+  signature_named l =
       let below : (i : ℕ) → ltb (byte p i) 256 ≡ true = λ i. lt-ltb (byte p i) 256 (omega arith) in
       needed (signature_of p) 0x58 _ (rw (below 0, below 1, below 2, below 3)) refl refl refl l
 
-  sharps-fit : (b : ℕ) → b < 256 → mag (signed_byte b) < 128
-  sharps-fit b h = by-lt b 128 (λ low. rw (signed_low b low) low) (λ high. rw (signed_high b high h) (omega arith))
+  sharps_fit : (b : ℕ) → b < 256 → mag (signed_byte b) < 128
+  sharps_fit b h = by-lt b 128 (λ low. rw (signed_low b low) low) (λ high. rw (signed_high b high h) (omega arith))
 
-  key-named : 2 ≤ length p → MetaNamed (key_of p)
+  key_named : 2 ≤ length p → MetaNamed (key_of p)
   unfolding meta_fits meta_carries raw_meta
-  key-named l = needed (key_of p) 0x59 _ (lt-ltb _ 128 (sharps-fit (byte p 0) (omega arith))) refl refl refl l
+  key_named l = needed (key_of p) 0x59 _ (lt-ltb _ 128 (sharps_fit (byte p 0) (omega arith))) refl refl refl l
 
   meta_named_lem : Gives MetaNamed (called_meta rules t p)
   unfolding called_meta meta_fits meta_carries raw_meta is_named
   meta_named_lem =
       let P = Gives MetaNamed in
-      pick_test P (eqb t 0x00) (λ e. track-named)
+      pick_test P (eqb t 0x00) (λ e. track_named)
       (λ n00. pick_test P (is_text t) (λ e. whole (text t p) e refl refl refl)
-      (λ ntext. pick_test P (eqb t 0x20) (λ e. from_named 1 0x20 _ (eqb-true t 0x20 e) (λ l. rw l) (λ l. narrow-named 16 midi_channel (omega arith) (channel-named l)))
-      (λ n20. pick_test P (eqb t 0x21) (λ e. from_named 1 0x21 _ (eqb-true t 0x21 e) (λ l. rw l) (λ l. narrow-named 128 midi_port (omega arith) (port-named l)))
+      (λ ntext. pick_test P (eqb t 0x20) (λ e. from_named 1 0x20 _ (eqb-true t 0x20 e) (λ l. rw l) (λ l. narrow_named 16 midi_channel (omega arith) (channel_named l)))
+      (λ n20. pick_test P (eqb t 0x21) (λ e. from_named 1 0x21 _ (eqb-true t 0x21 e) (λ l. rw l) (λ l. narrow_named 128 midi_port (omega arith) (port_named l)))
       (λ n21. pick_test P (eqb t 0x2F) (λ e. needed end_of_track 0x2F [] refl refl refl refl (omega arith))
-      (λ n2F. pick_test P (eqb t 0x51) (λ e. from_named 3 0x51 _ (eqb-true t 0x51 e) (λ l. rw l) tempo-named)
-      (λ n51. pick_test P (eqb t 0x54) (λ e. from_named 5 0x54 _ (eqb-true t 0x54 e) (λ l. rw l) time-named)
-      (λ n54. pick_test P (eqb t 0x58) (λ e. from_named 4 0x58 _ (eqb-true t 0x58 e) (λ l. rw l) signature-named)
-      (λ n58. pick_test P (eqb t 0x59) (λ e. pick_test P (leb 2 (length p)) (λ l. key-named (leb-true 2 (length p) l)) (λ l. tt))
+      (λ n2F. pick_test P (eqb t 0x51) (λ e. from_named 3 0x51 _ (eqb-true t 0x51 e) (λ l. rw l) tempo_named)
+      (λ n51. pick_test P (eqb t 0x54) (λ e. from_named 5 0x54 _ (eqb-true t 0x54 e) (λ l. rw l) time_named)
+      (λ n54. pick_test P (eqb t 0x58) (λ e. from_named 4 0x58 _ (eqb-true t 0x58 e) (λ l. rw l) signature_named)
+      (λ n58. pick_test P (eqb t 0x59) (λ e. pick_test P (leb 2 (length p)) (λ l. key_named (leb-true 2 (length p) l)) (λ l. tt))
       (λ n59. pick_test P (eqb t 0x7F) (λ e. whole (sequencer_specific p) refl refl refl (ap (λ (n : ℕ). typed n p) (sym (eqb-true t 0x7F e))))
       (λ n7F. itself (rw (lt-leb t 0x09 (past_text t ntext n00), n20, n21, n2F, n51, n54, n58, n59, n7F))))))))))))
 
@@ -186,7 +186,7 @@ typed_named rules t p = then_gives (MetaNamed rules t p) (Named rules (typed t p
 
 pub raw_named : (rules : Rules) (raw : Raw) → Sound raw → Gives (Named rules raw) (called rules raw)
 unfolding called kind_fits carries raw_of
-raw_named rules (one status a) h = said rules status h.0 (one status a) (message_one (status / 16) a) refl (one-said rules status h.0 a h.1 h.2)
+raw_named rules (one status a) h = said rules status h.0 (one status a) (message_one (status / 16) a) refl (one_said rules status h.0 a h.1 h.2)
 raw_named rules (two status a b) h = said rules status h.0 (two status a b) (message_two (status / 16) a b) refl (two_said rules status h.0 a b h.1 h.2 h.3)
 raw_named rules (system status p) h =
     pick_test (Named rules (system status p)) (eqb status 0xF0)
@@ -198,41 +198,41 @@ raw_named rules (typed t p) h = typed_named rules t p
 pub unnamed_exactly : (rules : Rules) (t : ℕ) (p : List ℕ) → (is_named rules t (length p) ≡ false) ↔ (called rules (typed t p) ≡ gives (meta (unknown t p)))
 unfolding called carries meta_carries
 unnamed_exactly rules t p = (
-  λ h. rw (unnamed-itself rules t p h),
+  λ h. rw (unnamed_itself rules t p h),
   λ e. (said_of (Gives (Named rules (typed t p))) (typed_named rules t p) e).own,
 )
 
 -- what strict reading calls an event, lenient reading calls it too
 module _ (rules : Rules) where
-  narrow-alike : (limit b : ℕ) → Alike (narrow rules limit b) (narrow (leniently rules) limit b)
+  narrow_alike : (limit b : ℕ) → Alike (narrow rules limit b) (narrow (leniently rules) limit b)
   unfolding narrow
-  narrow-alike limit b = pick_alike Alike (ltb b limit) refl (strictly_alike rules 12 (b % limit))
+  narrow_alike limit b = pick_alike Alike (ltb b limit) refl (strictly_alike rules 12 (b % limit))
 
-  narrowed-alike : (limit b : ℕ) (of : ℕ → Meta (List ℕ)) → Alike (and_then (narrow rules limit b) (λ c. gives (of c))) (and_then (narrow (leniently rules) limit b) (λ c. gives (of c)))
-  narrowed-alike limit b of = then_alike _ _ (narrow rules limit b) (narrow (leniently rules) limit b) (narrow-alike limit b) (λ c. refl)
+  narrowed_alike : (limit b : ℕ) (of : ℕ → Meta (List ℕ)) → Alike (and_then (narrow rules limit b) (λ c. gives (of c))) (and_then (narrow (leniently rules) limit b) (λ c. gives (of c)))
+  narrowed_alike limit b of = then_alike _ _ (narrow rules limit b) (narrow (leniently rules) limit b) (narrow_alike limit b) (λ c. refl)
 
   -- a time is a time in either mode
-  time-alike : (p : List ℕ) → Alike (time_in rules p) (time_in (leniently rules) p)
+  time_alike : (p : List ℕ) → Alike (time_in rules p) (time_in (leniently rules) p)
   unfolding time_of to_time is_time
-  time-alike p = alike_self (time_in rules p)
+  time_alike p = alike_self (time_in rules p)
 
-  meta-alike : (t : ℕ) (p : List ℕ) → Alike (called_meta rules t p) (called_meta (leniently rules) t p)
+  meta_alike : (t : ℕ) (p : List ℕ) → Alike (called_meta rules t p) (called_meta (leniently rules) t p)
   unfolding called_meta
-  meta-alike t p =
+  meta_alike t p =
       pick_alike Alike (eqb t 0x00) refl
       (pick_alike Alike (is_text t) refl
-      (pick_alike Alike (eqb t 0x20) (pick_alike Alike (leb 1 (length p)) (narrowed-alike 16 (byte p 0) midi_channel) refl)
-      (pick_alike Alike (eqb t 0x21) (pick_alike Alike (leb 1 (length p)) (narrowed-alike 128 (byte p 0) midi_port) refl)
+      (pick_alike Alike (eqb t 0x20) (pick_alike Alike (leb 1 (length p)) (narrowed_alike 16 (byte p 0) midi_channel) refl)
+      (pick_alike Alike (eqb t 0x21) (pick_alike Alike (leb 1 (length p)) (narrowed_alike 128 (byte p 0) midi_port) refl)
       (pick_alike Alike (eqb t 0x2F) refl
       (pick_alike Alike (eqb t 0x51) (alike_self (from 3 t p (gives (tempo_of p))))
-      (pick_alike Alike (eqb t 0x54) (pick_alike Alike (leb 5 (length p)) (then_alike _ _ (time_in rules p) (time_in (leniently rules) p) (time-alike p) (λ time. refl)) refl)
+      (pick_alike Alike (eqb t 0x54) (pick_alike Alike (leb 5 (length p)) (then_alike _ _ (time_in rules p) (time_in (leniently rules) p) (time_alike p) (λ time. refl)) refl)
       (pick_alike Alike (eqb t 0x58) (alike_self (from 4 t p (gives (signature_of p))))
       (pick_alike Alike (eqb t 0x59) (alike_self (pick (leb 2 (length p)) (gives (key_of p)) (refuses 14)))
       (pick_alike Alike (eqb t 0x7F) refl refl)))))))))
 
-  pub called-alike : (raw : Raw) → Alike (called rules raw) (called (leniently rules) raw)
+  pub called_alike : (raw : Raw) → Alike (called rules raw) (called (leniently rules) raw)
   unfolding called
-  called-alike (one status a) = refl
-  called-alike (two status a b) = refl
-  called-alike (system status p) = refl
-  called-alike (typed t p) = then_alike _ _ (called_meta rules t p) (called_meta (leniently rules) t p) (meta-alike t p) (λ m. refl)
+  called_alike (one status a) = refl
+  called_alike (two status a b) = refl
+  called_alike (system status p) = refl
+  called_alike (typed t p) = then_alike _ _ (called_meta rules t p) (called_meta (leniently rules) t p) (meta_alike t p) (λ m. refl)

@@ -287,8 +287,8 @@ module _ (rules : Rules) (strict : rules.strict ≡ true) (s : List ℕ) (n : Nu
       let w : Walked rules 4 0 0 s n = said_of (Good rules 4 0 0 s) (read_walked rules s) read in
       few s n w.count (w.moved strict) (rw zero-add at w.below) w.whole
 
-  pub smf-number : (used : List ℕ) × (s ≡ used ++ n.rest) × (is_number 4 used ≡ true) × (n.value ≡ value_from 0 used)
-  smf-number =
+  pub smf_number : (used : List ℕ) × (s ≡ used ++ n.rest) × (is_number 4 used ≡ true) × (n.value ≡ value_from 0 used)
+  smf_number =
       let w : Walked rules 4 0 0 s n = said_of (Good rules 4 0 0 s) (read_walked rules s) read in
       (take w.count s, sym (ap (λ (l : List ℕ). take w.count s ++ l) w.tail ∙ take-append-drop w.count s), w.smf strict, w.means)
 

@@ -63,9 +63,9 @@ module _ (rules : Rules) (s : List ℕ) (n : Numeral) (read : read_number rules 
         padded = omega (arith, t.within);
       }
 
-  after-loaded : PayloadLoaded rules s (payload_after rules s n)
+  after_loaded : PayloadLoaded rules s (payload_after rules s n)
   unfolding payload_after
-  after-loaded =
+  after_loaded =
       pick_test (PayloadLoaded rules s) (leb n.value (length n.rest))
       (λ t. loaded n.value (omega arith) (leb-true _ _ t))
       (λ t. pick_test (PayloadLoaded rules s) rules.strict (λ q. q)
@@ -75,7 +75,7 @@ pub payload_loaded : (rules : Rules) (s : List ℕ) → PayloadLoaded rules s (r
 unfolding read_payload
 payload_loaded rules s = by (read_number rules s) refl (read_took rules s) where
   by : (a : Answer Numeral) → read_number rules s ≡ a → NumberTook rules s a → PayloadLoaded rules s (and_then a (payload_after rules s))
-  by (gives n) e t = after-loaded rules s n e
+  by (gives n) e t = after_loaded rules s n e
   by (refuses m) e t = t
 
 -- lenient reading never refuses

@@ -39,9 +39,9 @@ module _ (rules : Rules) (s : List ℕ) (at : ℕ) where
       let there : at + (p - at) ≡ p = omega arith in
       rw (e, used, there)
 
-  pub number-refused : {n : ℕ} → read_number rules (drop at s) ≡ refuses n → number_at rules s at ≡ refuses n
+  pub number_refused : {n : ℕ} → read_number rules (drop at s) ≡ refuses n → number_at rules s at ≡ refuses n
   unfolding number_at
-  number-refused e = rw e
+  number_refused e = rw e
 
 -- and what is known of a number that was read at a place
 pub record Reached (rules : Rules) (s : List ℕ) (at : ℕ) (n : NumberAt) : Type 0 where
@@ -83,9 +83,9 @@ module _ (rules : Rules) (s : List ℕ) (at : ℕ) (n : NumberAt) (e : number_at
   reached : Reached rules s at n
   reached = said_of (NumberReached rules s at) (number_reached rules s at) e
 
-  pub payload-whole : n.value ≤ length s - n.next → payload_at rules s at ≡ gives (record { span = record { start = n.next; length = n.value }; padding = n.padding })
+  pub payload_whole : n.value ≤ length s - n.next → payload_at rules s at ≡ gives (record { span = record { start = n.next; length = n.value }; padding = n.padding })
   unfolding payload_at read_payload payload_after
-  payload-whole h =
+  payload_whole h =
       let r = reached in
       let d = length-drop n.next s in
       let l : length (take n.value (drop n.next s)) ≡ n.value = length-take-le n.value (drop n.next s) (omega arith) in
@@ -98,14 +98,14 @@ module _ (rules : Rules) (s : List ℕ) (at : ℕ) (n : NumberAt) (e : number_at
   unfolding read_payload payload_after
   cut h = let d = length-drop n.next s in rw (reached.read, lt-leb n.value (length (drop n.next s)) (omega arith), ← reached.padded)
 
-  pub payload-cut-strict : length s - n.next < n.value → rules.strict ≡ true → payload_at rules s at ≡ refuses 11
+  pub payload_cut_strict : length s - n.next < n.value → rules.strict ≡ true → payload_at rules s at ≡ refuses 11
   unfolding payload_at
-  payload-cut-strict h t = rw (cut h, t)
+  payload_cut_strict h t = rw (cut h, t)
 
-  pub payload-cut-lenient : length s - n.next < n.value → rules.strict ≡ false
+  pub payload_cut_lenient : length s - n.next < n.value → rules.strict ≡ false
       → payload_at rules s at ≡ gives (record { span = record { start = n.next; length = length s - n.next }; padding = n.padding })
   unfolding payload_at
-  payload-cut-lenient h t =
+  payload_cut_lenient h t =
       let r = reached in
       let p : place_of s at [] - (length s - n.next) ≡ n.next = omega (arith, r.site, length-drop at s, length-drop n.next s) in
       rw (cut h, t, length-drop n.next s) (ap (λ (q : ℕ). gives (record { span = record { start = q; length = length s - n.next }; padding = n.padding })) p)

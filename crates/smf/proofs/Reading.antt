@@ -51,24 +51,24 @@ module _ (rules : Rules) (s : List ℕ) (start at st : ℕ) (delta : Delta) (sit
   channelled = placed s start (name_raw rules (read_channel st delta (drop at s)))
 
   -- as many bytes used as the place after them says
-  used-to : (p : ℕ) → Sited s start p → length (drop start s) - length (drop p s) ≡ p - start
-  used-to p e = omega arith
+  used_to : (p : ℕ) → Sited s start p → length (drop start s) - length (drop p s) ≡ p - start
+  used_to p e = omega arith
 
   is_one : data_length st ≡ 1 → read_channel st delta (drop at s) ≡ read_one st delta (drop at s)
   unfolding read_channel
   is_one n = rw n
 
-  is-two : data_length st ≡ 2 → read_channel st delta (drop at s) ≡ read_two st delta (drop at s)
+  is_two : data_length st ≡ 2 → read_channel st delta (drop at s) ≡ read_two st delta (drop at s)
   unfolding read_channel
-  is-two n = rw n
+  is_two n = rw n
 
-  pub data-short : length s - at < data_length st → refused_at 8 0 st 0 ≡ channelled
+  pub data_short : length s - at < data_length st → refused_at 8 0 st 0 ≡ channelled
   unfolding placed name_raw read_one read_two
-  data-short h =
+  data_short h =
       ⊎_elim (λ n. rw (is_one n, drop_of_length-le s {i = at} (omega arith)))
       (λ n. by-lt at (length s)
-      (λ g. rw (is-two n, drop-cons s at 0 g, drop_of_length-le s {i = suc at} (omega arith)))
-      (λ g. rw (is-two n, drop_of_length-le s {i = at} g)))
+      (λ g. rw (is_two n, drop-cons s at 0 g, drop_of_length-le s {i = suc at} (omega arith)))
+      (λ g. rw (is_two n, drop_of_length-le s {i = at} g)))
       (one_or_two st)
 
   -- the first data byte, and the second
@@ -80,18 +80,18 @@ module _ (rules : Rules) (s : List ℕ) (start at st : ℕ) (delta : Delta) (sit
       let e : suc (at + 1) ≡ at + 2 = omega arith in
       rw (drop-cons s (at + 1) 0 (omega arith), e)
 
-  pub data-top : data_length st ≤ length s - at → 0x80 ≤ get_or s at 0 → refused_at 9 0 st 0 ≡ channelled
+  pub data_top : data_length st ≤ length s - at → 0x80 ≤ get_or s at 0 → refused_at 9 0 st 0 ≡ channelled
   unfolding placed name_raw read_one read_two
-  data-top h b =
+  data_top h b =
       ⊎_elim (λ n. rw (is_one n, first (omega arith), le-ltb (get_or s at 0) 0x80 b))
-      (λ n. rw (is-two n, first (omega arith), second (omega arith), le-ltb (get_or s at 0) 0x80 b))
+      (λ n. rw (is_two n, first (omega arith), second (omega arith), le-ltb (get_or s at 0) 0x80 b))
       (one_or_two st)
 
-  pub data-one : (b : ℕ) → data_length st ≤ length s - at → data_length st ≡ 1 → get_or s at 0 < 0x80
+  pub data_one : (b : ℕ) → data_length st ≤ length s - at → data_length st ≡ 1 → get_or s at 0 < 0x80
       → told (event delta.value (midi (st % 16) (message_with st (get_or s at 0) b))) (at + 1 - start) st delta.padding ≡ channelled
   unfolding placed name_raw read_one named called map_event map_kind message_with
-  data-one b h n a =
-      rw (is_one n, first (omega arith), lt-ltb (get_or s at 0) 0x80 a, used-to (at + 1) (site_next s start at (omega arith) site), n)
+  data_one b h n a =
+      rw (is_one n, first (omega arith), lt-ltb (get_or s at 0) 0x80 a, used_to (at + 1) (site_next s start at (omega arith) site), n)
 
   module _ (h : data_length st ≤ length s - at) (n : data_length st ≡ 1 → ⊥) (a : get_or s at 0 < 0x80) where
     two : data_length st ≡ 2
@@ -104,7 +104,7 @@ module _ (rules : Rules) (s : List ℕ) (start at st : ℕ) (delta : Delta) (sit
     unfolding placed name_raw read_two
     data-second-top b =
         let m = data-more in
-        rw (is-two two, first (omega arith), second (omega arith), lt-ltb (get_or s at 0) 0x80 a, le-ltb (get_or s (at + 1) 0) 0x80 b)
+        rw (is_two two, first (omega arith), second (omega arith), lt-ltb (get_or s at 0) 0x80 a, le-ltb (get_or s (at + 1) 0) 0x80 b)
 
     pub data-two : get_or s (at + 1) 0 < 0x80
         → told (event delta.value (midi (st % 16) (message_with st (get_or s at 0) (get_or s (at + 1) 0)))) (at + 2 - start) st delta.padding ≡ channelled
@@ -114,7 +114,7 @@ module _ (rules : Rules) (s : List ℕ) (start at st : ℕ) (delta : Delta) (sit
         let one : Sited s start (at + 1) = site_next s start at (omega arith) site in
         let z : at + 1 + 1 ≡ at + 2 = omega arith in
         let both : Sited s start (at + 2) = rw z at (site_next s start (at + 1) m one) in
-        rw (is-two two, first (omega arith), second (omega arith), lt-ltb (get_or s at 0) 0x80 a, lt-ltb (get_or s (at + 1) 0) 0x80 b, used-to (at + 2) both, two)
+        rw (is_two two, first (omega arith), second (omega arith), lt-ltb (get_or s at 0) 0x80 a, lt-ltb (get_or s (at + 1) 0) 0x80 b, used_to (at + 2) both, two)
 
 -- Payloads: F0 and F7
 
@@ -220,9 +220,9 @@ module _ (rules : Rules) (s : List ℕ) (start at : ℕ) (delta : Delta) (site :
   Answers (gives m) = (told (event delta.value (meta m.message)) (m.next - start) 0 (delta.padding + m.padding) ≡ typedly) × (start ≤ m.next) × (at + m.padding ≤ m.next)
   Answers (refuses n) = refused_at n 0 0 0 ≡ typedly
 
-  pub meta-answers : Answers (meta_at rules s at)
+  pub meta_answers : Answers (meta_at rules s at)
   unfolding meta_at placed map_event map_kind
-  meta-answers = by (read_meta_message rules (drop at s)) refl (meta_less rules (drop at s)) where
+  meta_answers = by (read_meta_message rules (drop at s)) refl (meta_less rules (drop at s)) where
     by : (a : Answer MetaTaken) → read_meta_message rules (drop at s) ≡ a → Less (drop at s) a → Answers (and_then a (λ (t : MetaTaken). gives (meta_placed s at t)))
     by (refuses n) e l = rw (meta_reading_lem rules delta (drop at s), e)
     by (gives t) e l =
@@ -233,17 +233,17 @@ module _ (rules : Rules) (s : List ℕ) (start at : ℕ) (delta : Delta) (site :
 -- From a status byte on
 
 module _ (rules : Rules) (running : ℕ) (delta : Delta) (st : ℕ) (s : List ℕ) where
-  pub status-channel : st < 0xF0 → read_status rules running delta st s ≡ read_channel st delta s
+  pub status_channel : st < 0xF0 → read_status rules running delta st s ≡ read_channel st delta s
   unfolding read_status
-  status-channel h = rw (lt-ltb st 0xF0 h)
+  status_channel h = rw (lt-ltb st 0xF0 h)
 
-  pub status-meta : st ≡ 0xFF → read_status rules running delta st s ≡ read_meta rules delta s
+  pub status_meta : st ≡ 0xFF → read_status rules running delta st s ≡ read_meta rules delta s
   unfolding read_status
-  status-meta h = rw h
+  status_meta h = rw h
 
-  pub status-payload : (st ≡ 0xF0) ⊎ (st ≡ 0xF7) → read_status rules running delta st s ≡ with_payload delta (system st) (read_payload rules s)
+  pub status_payload : (st ≡ 0xF0) ⊎ (st ≡ 0xF7) → read_status rules running delta st s ≡ with_payload delta (system st) (read_payload rules s)
   unfolding read_status
-  status-payload h = ⊎_elim (λ e. rw e) (λ e. rw e) h
+  status_payload h = ⊎_elim (λ e. rw e) (λ e. rw e) h
 
   module _ (h : 0xF0 ≤ st) (a : st ≡ 0xFF → ⊥) (b : st ≡ 0xF0 → ⊥) (c : st ≡ 0xF7 → ⊥) where
     pub status-common : st < 0xF7 → read_status rules running delta st s ≡ refused 6 running
@@ -257,24 +257,24 @@ module _ (rules : Rules) (running : ℕ) (delta : Delta) (st : ℕ) (s : List �
 -- From behind the delta on
 
 module _ (rules : Rules) (running : ℕ) (delta : Delta) (s : List ℕ) (at : ℕ) where
-  pub body-missing : length s ≤ at → read_body rules running delta (drop at s) ≡ refused 4 running
+  pub body_missing : length s ≤ at → read_body rules running delta (drop at s) ≡ refused 4 running
   unfolding read_body
-  body-missing h = rw (drop_of_length-le s h)
+  body_missing h = rw (drop_of_length-le s h)
 
   at_byte : at < length s → drop at s ≡ get_or s at 0 ∷ drop (at + 1) s
   at_byte h = rw (add-one at, drop-cons s at 0 h)
 
-  pub body-status : at < length s → 0x80 ≤ get_or s at 0 → read_body rules running delta (drop at s) ≡ read_status rules running delta (get_or s at 0) (drop (at + 1) s)
+  pub body_status : at < length s → 0x80 ≤ get_or s at 0 → read_body rules running delta (drop at s) ≡ read_status rules running delta (get_or s at 0) (drop (at + 1) s)
   unfolding read_body
-  body-status h b = rw (at_byte h, le-ltb (get_or s at 0) 0x80 b)
+  body_status h b = rw (at_byte h, le-ltb (get_or s at 0) 0x80 b)
 
-  pub body-none : at < length s → get_or s at 0 < 0x80 → running ≡ 0 → read_body rules running delta (drop at s) ≡ refused 5 running
+  pub body_none : at < length s → get_or s at 0 < 0x80 → running ≡ 0 → read_body rules running delta (drop at s) ≡ refused 5 running
   unfolding read_body
-  body-none h b z = rw (at_byte h, lt-ltb (get_or s at 0) 0x80 b, z)
+  body_none h b z = rw (at_byte h, lt-ltb (get_or s at 0) 0x80 b, z)
 
-  pub body-running : at < length s → get_or s at 0 < 0x80 → (running ≡ 0 → ⊥) → read_body rules running delta (drop at s) ≡ read_channel running delta (drop at s)
+  pub body_running : at < length s → get_or s at 0 < 0x80 → (running ≡ 0 → ⊥) → read_body rules running delta (drop at s) ≡ read_channel running delta (drop at s)
   unfolding read_body
-  body-running h b z = rw (at_byte h, lt-ltb (get_or s at 0) 0x80 b, ne_eqb running 0 z)
+  body_running h b z = rw (at_byte h, lt-ltb (get_or s at 0) 0x80 b, ne_eqb running 0 z)
 
 -- a running status that is not none is a channel status
 pub running_channel : (r : ℕ) → is_running r ≡ true → (r ≡ 0 → ⊥) → (0x80 ≤ r) × (r < 0xF0)
@@ -288,9 +288,9 @@ running_channel r h z = by (ltb r 0x80) refl (ltb r 0xF0) refl (rw (ne_eqb r 0 z
 -- The whole event
 
 module _ (rules : Rules) (running : ℕ) (s : List ℕ) (at : ℕ) where
-  pub event-invalid : is_running running ≡ false → refused_at 1 0 running 0 ≡ event_at rules running s at
+  pub event_invalid : is_running running ≡ false → refused_at 1 0 running 0 ≡ event_at rules running s at
   unfolding event_at placed read_event name_raw read_raw
-  event-invalid h = rw h
+  event_invalid h = rw h
 
   module _ (valid : is_running running ≡ true) where
     pub event-refused : {n : ℕ} → number_at rules s at ≡ refuses n → refused_at n 0 running 0 ≡ event_at rules running s at

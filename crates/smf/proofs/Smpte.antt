@@ -154,9 +154,9 @@ module _ {rules : Rules} (s t : Time) (is : InRange rules s) (one : s.rate ≡ t
   unfolding subframes
   by_frames h = omega (arith, is.subframe-below)
 
-  by-seconds : seconds s < seconds t → subframes s < subframes t
+  by_seconds : seconds s < seconds t → subframes s < subframes t
   unfolding frames
-  by-seconds h =
+  by_seconds h =
       by_frames
       (subst (λ (n : ℕ). frames s < seconds t * n + t.frame) one
       (higher s.rate (seconds s) (seconds t) s.frame t.frame h is.frame_below))
@@ -195,8 +195,8 @@ unfolding earlier seconds frames subframes
 positions_ordered rules s t es et one =
     let is = in_range rules s es in
     let it = in_range rules t et in
-    let sooner = by-seconds s t is one in
-    let later = by-seconds t s it (sym one) in
+    let sooner = by_seconds s t is one in
+    let later = by_seconds t s it (sym one) in
     decides s.hour t.hour (λ h. sooner (omega arith)) (λ h. later (omega arith))
     (λ hour. decides s.minute t.minute (λ h. sooner (omega arith)) (λ h. later (omega arith))
     (λ minute. decides s.second t.second (λ h. sooner (omega arith)) (λ h. later (omega arith))

@@ -15,7 +15,7 @@ use Rattle.smf.specs.Lists.{Stop, ended, full, stopped, read_more, ListAt, list_
 use Rattle.smf.proofs.Place.{Sited}
 use Rattle.smf.proofs.Answer.{pick_test}
 use Rattle.smf.proofs.Event.{Reached, EventReached, event_reached}
-use Rattle.smf.proofs.ListPlaces.{stops_there, in_front, list-begun, more-end, more-full, more-refused, more-step, more-next}
+use Rattle.smf.proofs.ListPlaces.{stops_there, in_front, list_begun, more_end, more_full, more_refused, more_step, more_next}
 
 -- the list from a reader on, of one that began at a place
 abbrev pub list_from : Rules → ℕ → List ℕ → ℕ → Reader → ListAt
@@ -46,10 +46,10 @@ event_within_lem rules running s p {a} e = (subst (EventReached rules running s 
 
 module _ (rules : Rules) (most : ℕ) (s : List ℕ) (at : ℕ) where
   -- the list at a place is the list from the reader that begins there
-  pub list-from : (running : ℕ) → is_running running ≡ true → list_at rules most running s at ≡ list_from rules most s at (reader_at at running)
-  list-from running v =
+  pub list_from_lem : (running : ℕ) → is_running running ≡ true → list_at rules most running s at ≡ list_from rules most s at (reader_at at running)
+  list_from_lem running v =
       let all : most ≡ most - 0 = omega arith in
-      list-begun rules most running s at v ∙ ap (λ (n : ℕ). list_placed s at (read_more rules n running (drop at s))) all
+      list_begun rules most running s at v ∙ ap (λ (n : ℕ). list_placed s at (read_more rules n running (drop at s))) all
 
   module _ (r : Reader) (site : Sited s at r.place) where
     one_less : r.count < most → most - r.count ≡ suc (most - (r.count + 1))
@@ -57,9 +57,9 @@ module _ (rules : Rules) (most : ℕ) (s : List ℕ) (at : ℕ) where
 
     event-step : r.place < length s → r.count < most → (a : ReadAt) → event_at rules r.running s r.place ≡ a → Stepped rules most s at r (step_on r a)
     unfolding step_on
-    event-step h room (refused_at n used after padding) e = rw (one_less room) (more-refused rules r.running s at r.place site (most - (r.count + 1)) h e)
+    event-step h room (refused_at n used after padding) e = rw (one_less room) (more_refused rules r.running s at r.place site (most - (r.count + 1)) h e)
     event-step h room (reads_at a) e =
-        let next = more-next rules r.running s at r.place site h e in
+        let next = more_next rules r.running s at r.place site h e in
         record {
           room = room;
           counted = refl;
@@ -67,15 +67,15 @@ module _ (rules : Rules) (most : ℕ) (s : List ℕ) (at : ℕ) where
           padded = next.3;
           within = next.1;
           site = next.0;
-          list = ap (λ (n : ℕ). list_placed s at (read_more rules n r.running (drop r.place s))) (one_less room) ∙ more-step rules r.running s at r.place site (most - (r.count + 1)) h e;
+          list = ap (λ (n : ℕ). list_placed s at (read_more rules n r.running (drop r.place s))) (one_less room) ∙ more_step rules r.running s at r.place site (most - (r.count + 1)) h e;
         }
 
     pub next-stepped : Stepped rules most s at r (next_at rules most s r)
     unfolding next_at
     next-stepped =
         pick_test (Stepped rules most s at r) (leb (length s) r.place)
-        (λ t. more-end rules r.running s at r.place site (most - r.count) (leb-true (length s) r.place t))
+        (λ t. more_end rules r.running s at r.place site (most - r.count) (leb-true (length s) r.place t))
         (λ t. let h : r.place < length s = omega (arith, leb-false (length s) r.place t) in
         pick_test (Stepped rules most s at r) (leb most r.count)
-        (λ u. let none : most - r.count ≡ 0 = omega (arith, leb-true most r.count u) in rw none (more-full rules r.running s at r.place site h))
+        (λ u. let none : most - r.count ≡ 0 = omega (arith, leb-true most r.count u) in rw none (more_full rules r.running s at r.place site h))
         (λ u. event-step h (omega (arith, leb-false most r.count u)) (event_at rules r.running s r.place) refl))

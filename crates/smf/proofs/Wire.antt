@@ -125,10 +125,10 @@ module _ (rules : Rules) (running : ℕ) (delta : Delta) where
           padded = omega (arith, length-append front (ds ++ s), length-append ds s);
         }
 
-    one-read : (ds : List ℕ) → takes_one status ≡ true → BodyRead rules running delta (front ++ ds) (read_one status delta ds)
+    one_read : (ds : List ℕ) → takes_one status ≡ true → BodyRead rules running delta (front ++ ds) (read_one status delta ds)
     unfolding read_one encode_raw lead
-    one-read [] o = tt
-    one-read (a ∷ s) o =
+    one_read [] o = tt
+    one_read (a ∷ s) o =
         pick_test (BodyRead rules running delta (front ++ (a ∷ s))) (ltb a 0x80)
         (λ e. data-read (one status a) (a ∷ []) s (c, o, ltb-true a 0x80 e) refl refl (pick_length (eqb running status) status (a ∷ [])))
         (λ e. tt)
@@ -146,7 +146,7 @@ module _ (rules : Rules) (running : ℕ) (delta : Delta) where
 
     channel-read : (ds : List ℕ) → BodyRead rules running delta (front ++ ds) (read_channel status delta ds)
     unfolding read_channel
-    channel-read ds = pick_test (BodyRead rules running delta (front ++ ds)) (takes_one status) (one-read ds) (two_read ds)
+    channel-read ds = pick_test (BodyRead rules running delta (front ++ ds)) (takes_one status) (one_read ds) (two_read ds)
 
   -- a payload, behind as many bytes as are written before it
   load_read : (of : List ℕ → Raw) (front s : List ℕ) → Loads of (length front) → (a : Answer Payload) → PayloadLoaded rules s a
@@ -177,9 +177,9 @@ module _ (rules : Rules) (running : ℕ) (delta : Delta) where
   meta_read [] = tt
   meta_read (t ∷ s) = load_read (typed t) (0xFF ∷ t ∷ []) s (typed_loads t) (read_payload rules s) (payload_loaded rules s)
 
-  status-read : (status : ℕ) (s : List ℕ) → 0x80 ≤ status → BodyRead rules running delta (status ∷ s) (read_status rules running delta status s)
+  status_read : (status : ℕ) (s : List ℕ) → 0x80 ≤ status → BodyRead rules running delta (status ∷ s) (read_status rules running delta status s)
   unfolding read_status
-  status-read status s low =
+  status_read status s low =
       let P = BodyRead rules running delta (status ∷ s) in
       pick_test P (ltb status 0xF0) (λ e. channel-read (status ∷ []) status (record { low = low; high = ltb-true status 0xF0 e }) (lead_most running status) s)
       (λ e0. pick_test P (eqb status 0xFF) (λ e. rw (eqb-true status 0xFF e) (meta_read s))
@@ -187,15 +187,15 @@ module _ (rules : Rules) (running : ℕ) (delta : Delta) where
       (λ e2. pick_test P (eqb status 0xF7) (λ e. load_read (system status) (status ∷ []) s (system_loads status (inr (eqb-true status 0xF7 e))) (read_payload rules s) (payload_loaded rules s))
       (λ e3. pick_test P (ltb status 0xF7) (λ e. tt) (λ e. tt)))))
 
-  body-read : (s : List ℕ) → is_running running ≡ true → BodyRead rules running delta s (read_body rules running delta s)
+  body_read : (s : List ℕ) → is_running running ≡ true → BodyRead rules running delta s (read_body rules running delta s)
   unfolding read_body
-  body-read [] is = tt
-  body-read (b ∷ s) is =
+  body_read [] is = tt
+  body_read (b ∷ s) is =
       let P = BodyRead rules running delta (b ∷ s) in
       pick_test P (ltb b 0x80)
       (λ e. pick_test P (eqb running 0) (λ n. tt)
       (λ n. ⊎_elim (λ z. absurd (eqb-false running 0 n z)) (λ c. channel-read [] running c (omega (arith, lead_spared running)) (b ∷ s)) (running_is running is)))
-      (λ e. status-read b s (ltb-false b 0x80 e))
+      (λ e. status_read b s (ltb-false b 0x80 e))
 
 -- the same of the bytes s that begin with the delta; and the event ends past its start, with its padding among the bytes used
 pub record Read (rules : Rules) (running : ℕ) (s : List ℕ) (t : Taken RawEvent) : Type 0 where
@@ -225,9 +225,9 @@ raw_event_length running e = length-append (encode_number e.delta) (encode_raw r
 
 module _ (rules : Rules) (running : ℕ) (s : List ℕ) where
   -- a delta, and behind it a body of some bytes
-  with-delta : (n : Numeral) → Took rules s n → 0 < length n.rest → (a : Reading (Taken RawEvent)) → BodyRead rules running (delta_read s n) n.rest a → RawRead rules running s a
-  with-delta n k some (refused m after) g = tt
-  with-delta n k some (reads t) g =
+  with_delta : (n : Numeral) → Took rules s n → 0 < length n.rest → (a : Reading (Taken RawEvent)) → BodyRead rules running (delta_read s n) n.rest a → RawRead rules running s a
+  with_delta n k some (refused m after) g = tt
+  with_delta n k some (reads t) g =
       let few : length (encode_number n.value) + length n.rest ≤ length s = ⊎_elim (λ z. absurd (omega (arith, k.within, ap length z))) (λ f. f) k.fewest in
       let split : s ≡ take (length s - length n.rest) s ++ n.rest =
       sym (ap (λ (l : List ℕ). take (length s - length n.rest) s ++ l) k.tail ∙ take-append-drop (length s - length n.rest) s)
@@ -246,18 +246,18 @@ module _ (rules : Rules) (running : ℕ) (s : List ℕ) where
         padded = omega (arith, g.padded, k.within);
       }
 
-  delta-read : (a : Answer Numeral) → NumberTook rules s a → is_running running ≡ true → RawRead rules running s (after_delta rules running s a)
+  delta_read_lem : (a : Answer Numeral) → NumberTook rules s a → is_running running ≡ true → RawRead rules running s (after_delta rules running s a)
   unfolding after_delta read_body
-  delta-read (refuses m) k is = tt
-  delta-read (gives n) k is = by n.rest refl where
+  delta_read_lem (refuses m) k is = tt
+  delta_read_lem (gives n) k is = by n.rest refl where
     by : (l : List ℕ) → n.rest ≡ l → RawRead rules running s (read_body rules running (delta_read s n) n.rest)
     by [] e = rw e tt
-    by (b ∷ l) e = with-delta n k (omega (arith, ap length e)) (read_body rules running (delta_read s n) n.rest) (body-read rules running (delta_read s n) n.rest is)
+    by (b ∷ l) e = with_delta n k (omega (arith, ap length e)) (read_body rules running (delta_read s n) n.rest) (body_read rules running (delta_read s n) n.rest is)
 
   -- what every raw event that is read is, in either mode
-  pub raw-read : RawRead rules running s (read_raw rules running s)
+  pub raw_read : RawRead rules running s (read_raw rules running s)
   unfolding read_raw
-  raw-read = pick_test (RawRead rules running s) (is_running running) (λ is. delta-read (read_number rules s) (read_took rules s) is) (λ no. tt)
+  raw_read = pick_test (RawRead rules running s) (is_running running) (λ is. delta_read_lem (read_number rules s) (read_took rules s) is) (λ no. tt)
 
 -- Written bytes are read back
 
@@ -266,51 +266,51 @@ pick_append true x y s = refl
 pick_append false x y s = refl
 
 module _ (rules : Rules) (running : ℕ) (delta : Delta) where
-  one-back : (status a : ℕ) (rest : List ℕ) → Sound (one status a) → read_channel status delta (a ∷ rest) ≡ reads (taken (raw_event delta.value (one status a)) rest status delta.padding)
+  one_back : (status a : ℕ) (rest : List ℕ) → Sound (one status a) → read_channel status delta (a ∷ rest) ≡ reads (taken (raw_event delta.value (one status a)) rest status delta.padding)
   unfolding read_channel read_one
-  one-back status a rest h = rw (h.1, lt-ltb a 0x80 h.2)
+  one_back status a rest h = rw (h.1, lt-ltb a 0x80 h.2)
 
   two_back : (status a b : ℕ) (rest : List ℕ) → Sound (two status a b) → read_channel status delta (a ∷ b ∷ rest) ≡ reads (taken (raw_event delta.value (two status a b)) rest status delta.padding)
   unfolding read_channel read_two
   two_back status a b rest h = rw (h.1, lt-ltb a 0x80 h.2, lt-ltb b 0x80 h.3)
 
   -- a data byte under the running status, and a channel status byte, both lead to the status's data
-  at-data : (a : ℕ) (s : List ℕ) → Channel running → a < 0x80 → read_body rules running delta (a ∷ s) ≡ read_channel running delta (a ∷ s)
+  at_data : (a : ℕ) (s : List ℕ) → Channel running → a < 0x80 → read_body rules running delta (a ∷ s) ≡ read_channel running delta (a ∷ s)
   unfolding read_body
-  at-data a s c h = rw (lt-ltb a 0x80 h, ne_eqb running 0 (omega (arith, c.low)))
+  at_data a s c h = rw (lt-ltb a 0x80 h, ne_eqb running 0 (omega (arith, c.low)))
 
-  at-channel : (status : ℕ) (s : List ℕ) → Channel status → read_body rules running delta (status ∷ s) ≡ read_channel status delta s
+  at_channel : (status : ℕ) (s : List ℕ) → Channel status → read_body rules running delta (status ∷ s) ≡ read_channel status delta s
   unfolding read_body read_status
-  at-channel status s c = rw (le-ltb status 0x80 c.low, lt-ltb status 0xF0 c.high)
+  at_channel status s c = rw (le-ltb status 0x80 c.low, lt-ltb status 0xF0 c.high)
 
   -- the status byte left out where it is the running status, and else not
   spared : (status a : ℕ) (s : List ℕ) → Channel status → a < 0x80
       → read_body rules running delta (pick (eqb running status) (a ∷ s) (status ∷ a ∷ s)) ≡ read_channel status delta (a ∷ s)
   spared status a s c h =
       pick_test (λ (l : List ℕ). read_body rules running delta l ≡ read_channel status delta (a ∷ s)) (eqb running status)
-      (λ e. let same = eqb-true running status e in at-data a s (rw same c) h ∙ ap (λ (n : ℕ). read_channel n delta (a ∷ s)) same)
-      (λ e. at-channel status (a ∷ s) c)
+      (λ e. let same = eqb-true running status e in at_data a s (rw same c) h ∙ ap (λ (n : ℕ). read_channel n delta (a ∷ s)) same)
+      (λ e. at_channel status (a ∷ s) c)
 
-  load-back : (of : List ℕ → Raw) (p rest : List ℕ) → length p < 2 ^ 28
+  load_back : (of : List ℕ → Raw) (p rest : List ℕ) → length p < 2 ^ 28
       → with_payload delta of (read_payload rules (encode_payload p ++ rest)) ≡ reads (taken (raw_event delta.value (of p)) rest 0 delta.padding)
-  load-back of p rest h = rw (payload_reads_back rules p rest h, add-zero)
+  load_back of p rest h = rw (payload_reads_back rules p rest h, add-zero)
 
-  system-back : (status : ℕ) (s : List ℕ) → (status ≡ 0xF0) ⊎ (status ≡ 0xF7) → read_body rules running delta (status ∷ s) ≡ with_payload delta (system status) (read_payload rules s)
+  system_back : (status : ℕ) (s : List ℕ) → (status ≡ 0xF0) ⊎ (status ≡ 0xF7) → read_body rules running delta (status ∷ s) ≡ with_payload delta (system status) (read_payload rules s)
   unfolding read_body read_status
-  system-back status s = ⊎_elim (λ e. rw e) (λ e. rw e)
+  system_back status s = ⊎_elim (λ e. rw e) (λ e. rw e)
 
-  typed-back : (t : ℕ) (s : List ℕ) → read_body rules running delta (0xFF ∷ t ∷ s) ≡ with_payload delta (typed t) (read_payload rules s)
+  typed_back : (t : ℕ) (s : List ℕ) → read_body rules running delta (0xFF ∷ t ∷ s) ≡ with_payload delta (typed t) (read_payload rules s)
   unfolding read_body read_status read_meta
-  typed-back t s = refl
+  typed_back t s = refl
 
   body_back : (raw : Raw) (rest : List ℕ) → Sound raw → read_body rules running delta (encode_raw running raw ++ rest) ≡ reads (taken (raw_event delta.value raw) rest (running_after raw) delta.padding)
   unfolding encode_raw
   body_back (one status a) rest h =
-      rw (pick_append (eqb running status) (a ∷ []) (status ∷ a ∷ []) rest) (spared status a rest h.0 h.2 ∙ one-back status a rest h)
+      rw (pick_append (eqb running status) (a ∷ []) (status ∷ a ∷ []) rest) (spared status a rest h.0 h.2 ∙ one_back status a rest h)
   body_back (two status a b) rest h =
       rw (pick_append (eqb running status) (a ∷ b ∷ []) (status ∷ a ∷ b ∷ []) rest) (spared status a (b ∷ rest) h.0 h.2 ∙ two_back status a b rest h)
-  body_back (system status p) rest h = system-back status (encode_payload p ++ rest) h.0 ∙ load-back (system status) p rest h.1
-  body_back (typed t p) rest h = typed-back t (encode_payload p ++ rest) ∙ load-back (typed t) p rest h
+  body_back (system status p) rest h = system_back status (encode_payload p ++ rest) h.0 ∙ load_back (system status) p rest h.1
+  body_back (typed t p) rest h = typed_back t (encode_payload p ++ rest) ∙ load_back (typed t) p rest h
 
 -- a raw event written is read back, in both modes, whatever follows, and has no padding
 pub raw_reads_back : (rules : Rules) (running : ℕ) (e : RawEvent) (rest : List ℕ) → is_running running ≡ true → e.delta < 2 ^ 28 → Sound e.raw
@@ -332,37 +332,37 @@ reads_self (reads t) = refl
 reads_self (refused n after) = tt
 
 module _ (rules : Rules) where
-  load-alike : (delta : Delta) (of : List ℕ → Raw) (a b : Answer Payload) → Alike a b → ReadsAlike (with_payload delta of a) (with_payload delta of b)
-  load-alike delta of (gives p) b h = rw h
-  load-alike delta of (refuses n) b h = tt
+  load_alike : (delta : Delta) (of : List ℕ → Raw) (a b : Answer Payload) → Alike a b → ReadsAlike (with_payload delta of a) (with_payload delta of b)
+  load_alike delta of (gives p) b h = rw h
+  load_alike delta of (refuses n) b h = tt
 
-  loads-alike : (delta : Delta) (of : List ℕ → Raw) (s : List ℕ) → ReadsAlike (with_payload delta of (read_payload rules s)) (with_payload delta of (read_payload (leniently rules) s))
-  loads-alike delta of s = load-alike delta of (read_payload rules s) (read_payload (leniently rules) s) (payload_alike rules s)
+  loads_alike : (delta : Delta) (of : List ℕ → Raw) (s : List ℕ) → ReadsAlike (with_payload delta of (read_payload rules s)) (with_payload delta of (read_payload (leniently rules) s))
+  loads_alike delta of s = load_alike delta of (read_payload rules s) (read_payload (leniently rules) s) (payload_alike rules s)
 
-  meta-alike : (delta : Delta) (s : List ℕ) → ReadsAlike (read_meta rules delta s) (read_meta (leniently rules) delta s)
+  meta_alike : (delta : Delta) (s : List ℕ) → ReadsAlike (read_meta rules delta s) (read_meta (leniently rules) delta s)
   unfolding read_meta
-  meta-alike delta [] = tt
-  meta-alike delta (t ∷ s) = loads-alike delta (typed t) s
+  meta_alike delta [] = tt
+  meta_alike delta (t ∷ s) = loads_alike delta (typed t) s
 
-  status-alike : (running : ℕ) (delta : Delta) (status : ℕ) (s : List ℕ) → ReadsAlike (read_status rules running delta status s) (read_status (leniently rules) running delta status s)
+  status_alike : (running : ℕ) (delta : Delta) (status : ℕ) (s : List ℕ) → ReadsAlike (read_status rules running delta status s) (read_status (leniently rules) running delta status s)
   unfolding read_status
-  status-alike running delta status s =
+  status_alike running delta status s =
       pick_alike ReadsAlike (ltb status 0xF0) (reads_self (read_channel status delta s))
-      (pick_alike ReadsAlike (eqb status 0xFF) (meta-alike delta s)
-      (pick_alike ReadsAlike (eqb status 0xF0) (loads-alike delta (system status) s)
-      (pick_alike ReadsAlike (eqb status 0xF7) (loads-alike delta (system status) s) (reads_self (pick (ltb status 0xF7) (refused 6 running) (refused 7 running))))))
+      (pick_alike ReadsAlike (eqb status 0xFF) (meta_alike delta s)
+      (pick_alike ReadsAlike (eqb status 0xF0) (loads_alike delta (system status) s)
+      (pick_alike ReadsAlike (eqb status 0xF7) (loads_alike delta (system status) s) (reads_self (pick (ltb status 0xF7) (refused 6 running) (refused 7 running))))))
 
   body_alike : (running : ℕ) (delta : Delta) (s : List ℕ) → ReadsAlike (read_body rules running delta s) (read_body (leniently rules) running delta s)
   unfolding read_body
   body_alike running delta [] = tt
   body_alike running delta (b ∷ s) =
-      pick_alike ReadsAlike (ltb b 0x80) (reads_self (pick (eqb running 0) (refused 5 running) (read_channel running delta (b ∷ s)))) (status-alike running delta b s)
+      pick_alike ReadsAlike (ltb b 0x80) (reads_self (pick (eqb running 0) (refused 5 running) (read_channel running delta (b ∷ s)))) (status_alike running delta b s)
 
-  delta-alike : (running : ℕ) (s : List ℕ) (a b : Answer Numeral) → Alike a b → ReadsAlike (after_delta rules running s a) (after_delta (leniently rules) running s b)
+  delta_alike : (running : ℕ) (s : List ℕ) (a b : Answer Numeral) → Alike a b → ReadsAlike (after_delta rules running s a) (after_delta (leniently rules) running s b)
   unfolding after_delta
-  delta-alike running s (gives n) b h = rw h (body_alike running (delta_read s n) n.rest)
-  delta-alike running s (refuses n) b h = tt
+  delta_alike running s (gives n) b h = rw h (body_alike running (delta_read s n) n.rest)
+  delta_alike running s (refuses n) b h = tt
 
-  pub raw-alike : (running : ℕ) (s : List ℕ) → ReadsAlike (read_raw rules running s) (read_raw (leniently rules) running s)
+  pub raw_alike : (running : ℕ) (s : List ℕ) → ReadsAlike (read_raw rules running s) (read_raw (leniently rules) running s)
   unfolding read_raw
-  raw-alike running s = pick_alike ReadsAlike (is_running running) (delta-alike running s (read_number rules s) (read_number (leniently rules) s) (number_alike rules s)) tt
+  raw_alike running s = pick_alike ReadsAlike (is_running running) (delta_alike running s (read_number rules s) (read_number (leniently rules) s) (number_alike rules s)) tt

@@ -15,9 +15,9 @@ use Rattle.smf.specs.Place.{Span, inside, bytes_of}
 use Rattle.smf.specs.Write.{Written, over, left, put, write, number_bytes, part, load_bytes, payload_bytes}
 
 module _ (bs s : List ℕ) (at : ℕ) where
-  pub put-fits : at + length bs ≤ length s → record { buffer = over bs s at; answer = gives (at + length bs) } ≡ put bs s at
+  pub put_fits : at + length bs ≤ length s → record { buffer = over bs s at; answer = gives (at + length bs) } ≡ put bs s at
   unfolding put
-  put-fits h = rw (le-leb _ _ h)
+  put_fits h = rw (le-leb _ _ h)
 
   pub put_full : length s < at + length bs → left s 20 ≡ put bs s at
   unfolding put
@@ -65,9 +65,9 @@ part_length bytes span h = length-take-le span.length (drop span.start bytes) (o
 
 -- a range's bytes, written as they stand
 module _ (bytes : List ℕ) (span : Span) (s : List ℕ) (at : ℕ) where
-  pub slice-outside : inside bytes span ≡ false → left s 19 ≡ write (part bytes span) s at
+  pub slice_outside : inside bytes span ≡ false → left s 19 ≡ write (part bytes span) s at
   unfolding part
-  slice-outside e = rw e
+  slice_outside e = rw e
 
   module _ (is : inside bytes span ≡ true) where
     pub slice-long : length (bytes_of bytes span) ≡ span.length
@@ -82,16 +82,16 @@ module _ (bytes : List ℕ) (span : Span) (s : List ℕ) (at : ℕ) where
     unfolding part
     slice_fits h end e =
         rw (is, e) (ap (λ (n : ℕ). record { buffer = over (bytes_of bytes span) s at; answer = gives (at + n) }) (sym slice-long)
-        ∙ put-fits (bytes_of bytes span) s at (omega (arith, slice-long)))
+        ∙ put_fits (bytes_of bytes span) s at (omega (arith, slice-long)))
 
 module _ (bytes : List ℕ) (start n : ℕ) where
-  pub part-outside : length bytes < start + n → payload_bytes bytes start n ≡ refuses 19
+  pub part_outside : length bytes < start + n → payload_bytes bytes start n ≡ refuses 19
   unfolding payload_bytes part inside
-  part-outside h = rw (lt-leb _ _ h)
+  part_outside h = rw (lt-leb _ _ h)
 
-  pub part-long : start + n ≤ length bytes → 2 ^ 28 ≤ n → payload_bytes bytes start n ≡ refuses 22
+  pub part_long : start + n ≤ length bytes → 2 ^ 28 ≤ n → payload_bytes bytes start n ≡ refuses 22
   unfolding payload_bytes part load_bytes inside bytes_of
-  part-long h g = let l : length (take n (drop start bytes)) ≡ n = length-take-le n (drop start bytes) (omega (arith, length-drop start bytes)) in
+  part_long h g = let l : length (take n (drop start bytes)) ≡ n = length-take-le n (drop start bytes) (omega (arith, length-drop start bytes)) in
       rw (le-leb _ _ h, l, le-ltb _ _ g)
 
   pub part_bytes : start + n ≤ length bytes → n < 2 ^ 28 → payload_bytes bytes start n ≡ gives (encode_payload (take n (drop start bytes)))
@@ -103,15 +103,15 @@ module _ (bytes : List ℕ) (start n : ℕ) where
 pub number_put : (v : ℕ) (s : List ℕ) (at : ℕ) (w : Written) → v < 2 ^ 28 → at + length (encode_number v) ≤ length s
     → w ≡ write (number_bytes v) s at → w.buffer ≡ over (encode_number v) s at
 number_put v s at w f h e =
-    ap (λ (x : Written). x.buffer) (e ∙ ap (λ (a : Answer (List ℕ)). write a s at) (number_bytes_lem v f) ∙ sym (put-fits (encode_number v) s at h))
+    ap (λ (x : Written). x.buffer) (e ∙ ap (λ (a : Answer (List ℕ)). write a s at) (number_bytes_lem v f) ∙ sym (put_fits (encode_number v) s at h))
 
 -- a payload's bytes: its number's, and behind them its own
 module _ (p s : List ℕ) (at n : ℕ) (len : length p ≡ n) where
-  pub payload-size : length (encode_payload p) ≡ length (encode_number n) + n
+  pub payload_size : length (encode_payload p) ≡ length (encode_number n) + n
   unfolding encode_payload
-  payload-size = length-append (encode_number (length p)) p ∙ rw len
+  payload_size = length-append (encode_number (length p)) p ∙ rw len
 
-  pub payload-put : (l m : List ℕ) (q : ℕ) → at ≤ length s → l ≡ over (encode_number n) s at → m ≡ over p l q → q ≡ at + length (encode_number n) → m ≡ over (encode_payload p) s at
+  pub payload_put : (l m : List ℕ) (q : ℕ) → at ≤ length s → l ≡ over (encode_number n) s at → m ≡ over p l q → q ≡ at + length (encode_number n) → m ≡ over (encode_payload p) s at
   unfolding encode_payload
-  payload-put l m q h e f place =
+  payload_put l m q h e f place =
       f ∙ rw place (ap (λ (x : List ℕ). over p x (at + length (encode_number n))) e ∙ over_over (encode_number n) p s at h ∙ rw len)

@@ -9,7 +9,7 @@ use Rattle.smf.specs.Running.{is_running}
 use Rattle.smf.specs.Place.{Span}
 use Rattle.smf.specs.Event as smf
 use Rattle.smf.specs.Lists.{stopped, ListAt, list_at, Reader, next_at, holding, ListHeld, held_as}
-use Rattle.smf.proofs.ListPlaces.{list-invalid}
+use Rattle.smf.proofs.ListPlaces.{list_invalid}
 use Rattle.smf.proofs.Steps.{reader_at}
 use Rattle.event.specs.Event.{event_of}
 use Rattle.track.specs.List.{record_of}
@@ -32,10 +32,10 @@ pub record Filling (cap : ℕ) (rules : Rules) (s : List ℕ) (at first : ℕ) (
 module _ (cap : ℕ) (rules : Rules) (s : List ℕ) (at first : ℕ) (xs : List Record) (n : ℕ) (e : Holds cap xs n []) where
   pub invalid : is_running first ≡ false
       → record { list = record { records = map record_of xs; count = 0 }; stop = stopped 1; place = at; running = first; padding = 0 } ≡ held_as cap (list_at rules cap first s at)
-  invalid v = rw (list-invalid rules cap first s at v, holds_none cap xs n e)
+  invalid v = rw (list_invalid rules cap first s at v, holds_none cap xs n e)
 
-  pub filling-first : is_running first ≡ true → Filling cap rules s at first xs 0 (reader_at at first)
-  filling-first v = record { events = []; held = holds_none cap xs n e; sofar = begun cap rules s at first v }
+  pub filling_first : is_running first ≡ true → Filling cap rules s at first xs 0 (reader_at at first)
+  filling_first v = record { events = []; held = holds_none cap xs n e; sofar = begun cap rules s at first v }
 
 module _ {cap : ℕ} {rules : Rules} {s : List ℕ} {at first : ℕ} {xs : List Record} {padding : ℕ} {r : Reader} (h : Filling cap rules s at first xs padding r) (n : Next) (there : next_of n ≡ next_at rules cap s r) where
   -- the answer, where the step stops
@@ -43,8 +43,8 @@ module _ {cap : ℕ} {rules : Rules} {s : List ℕ} {at first : ℕ} {xs : List 
       → record { list = record { records = map record_of xs; count = r.count }; stop = stop_of why; place = r.place; running = r.running; padding = padding } ≡ held_as cap (list_at rules cap first s at)
   filled why e = rw (all h.sofar (sym there ∙ ap next_of e), ← h.held)
 
-  pub filling-more : (step : NextEvent) → n ≡ next.Event step → (x : Record) → record_of x ≡ event_of step.event → Filling cap rules s at first (set xs r.count x) (padding + step.padding) (reader_of step.cursor)
-  filling-more step e x kept =
+  pub filling_more : (step : NextEvent) → n ≡ next.Event step → (x : Record) → record_of x ≡ event_of step.event → Filling cap rules s at first (set xs r.count x) (padding + step.padding) (reader_of step.cursor)
+  filling_more step e x kept =
       let own = event_of step.event in
       let is = sym there ∙ ap next_of e in
       let t = took h.sofar is in

@@ -14,7 +14,7 @@ use Rattle.smf.specs.Lists as smf
 use Rattle.smf.specs.Lists.{read_list, event_from, ListAt, list_at, Reader, next_at}
 use Rattle.smf.proofs.Place.{Sited, site_begun}
 use Rattle.smf.proofs.Lists.{list_read}
-use Rattle.smf.proofs.Steps.{list_from, reader_at, Took, Stepped, list-from, next-stepped}
+use Rattle.smf.proofs.Steps.{list_from, reader_at, Took, Stepped, list_from_lem, next-stepped}
 
 -- events and their padding in front of those of a list
 abbrev behind : List (Event Span) → ℕ → ListAt → ListAt
@@ -45,7 +45,7 @@ module _ (cap : ℕ) (rules : Rules) (s : List ℕ) (at first : ℕ) where
         within = omega arith;
         site = site_begun s at;
         padded = omega arith;
-        sofar = list-from rules cap s at first v ∙ rw zero-add;
+        sofar = list_from_lem rules cap s at first v ∙ rw zero-add;
       }
 
 module _ {cap : ℕ} {rules : Rules} {s : List ℕ} {at first : ℕ} {es : List (Event Span)} {padding : ℕ} {r : Reader} (h : Sofar cap rules s at first es padding r) where

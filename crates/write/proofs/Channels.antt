@@ -11,15 +11,15 @@ use Rattle.write.specs.Raw.{channel_raw, status_bytes, data_bytes}
 use Rattle.write.specs.declared.raw.Channel.{Channel}
 
 module _ (running : ℕ) (c : Channel) where
-  pub channel-wire : encode_raw running (channel_raw c) ≡ status_bytes running c.status ++ data_bytes c
+  pub channel_wire : encode_raw running (channel_raw c) ≡ status_bytes running c.status ++ data_bytes c
   unfolding encode_raw
-  channel-wire =
+  channel_wire =
       by-test c.pair
       (λ p. rw p (by-test (eqb running c.status) (λ e. rw e) (λ e. rw e)))
       (λ p. rw p (by-test (eqb running c.status) (λ e. rw e) (λ e. rw e)))
 
-  pub channel-after : running_after (channel_raw c) ≡ c.status
-  channel-after = by-test c.pair (λ p. rw p) (λ p. rw p)
+  pub channel_after : running_after (channel_raw c) ≡ c.status
+  channel_after = by-test c.pair (λ p. rw p) (λ p. rw p)
 
-  pub data-length : length (data_bytes c) ≡ pick c.pair 2 1
-  data-length = by-test c.pair (λ p. rw p) (λ p. rw p)
+  pub data_length_lem : length (data_bytes c) ≡ pick c.pair 2 1
+  data_length_lem = by-test c.pair (λ p. rw p) (λ p. rw p)

@@ -30,8 +30,8 @@ module _ (bytes : List ℕ) (delta : ℕ) where
   abbrev Behind : Made → Answer wire.RawEvent
   Behind m = pick (ltb delta (2 ^ 28)) (and_then (made_said bytes m) (λ raw. gives (raw_event delta raw))) (refuses 18)
 
-  pub behind-wide : (m : Made) → 2 ^ 28 ≤ delta → refuses 18 ≡ Behind m
-  behind-wide m h = rw (le-ltb _ _ h)
+  pub behind_wide : (m : Made) → 2 ^ 28 ≤ delta → refuses 18 ≡ Behind m
+  behind_wide m h = rw (le-ltb _ _ h)
 
   module _ (h : delta < 2 ^ 28) where
     pub behind-refused : (m : Made) (n : Refusal) → m ≡ made.Refused n → refuses (number_of n) ≡ Behind m

@@ -43,23 +43,23 @@ module _ (rules : Rules) (bytes : List ℕ) where
   abbrev own : Kind Span → wire.Raw
   own k = raw_of (map_kind (bytes_of bytes) k)
 
-  kind-judged : (k : Kind Span)
+  kind_judged : (k : Kind Span)
       → raw_kind rules bytes k
       ≡ judged (kind_fits rules k) (inside bytes (kind_load no_span k)) (ltb (span_length (kind_load no_span k)) (2 ^ 28)) (kind_misnamed rules span_length k) (own k)
   unfolding raw_kind legal map_event
-  kind-judged k =
+  kind_judged k =
       made (λ (l : Event (List ℕ)). raw_of l.kind) (map_event (bytes_of bytes) (event 0 k)) (kind_fits rules k) (inside bytes (kind_load no_span k))
       (ltb (span_length (kind_load no_span k)) (2 ^ 28)) (kind_misnamed rules span_length k)
 
   -- a delta in front of it
-  pub behind-delta : (delta : ℕ) (k : Kind Span)
+  pub behind_delta : (delta : ℕ) (k : Kind Span)
       → raw_judged (legal rules bytes (event delta k)) ≡ pick (ltb delta (2 ^ 28)) (and_then (raw_kind rules bytes k) (λ raw. gives (raw_event delta raw))) (refuses 18)
   unfolding raw_judged legal map_event
-  behind-delta delta k =
+  behind_delta delta k =
       made (λ (l : Event (List ℕ)). raw_event l.delta (raw_of l.kind)) (map_event (bytes_of bytes) (event delta k)) (ltb delta (2 ^ 28) && kind_fits rules k) (inside bytes (kind_load no_span k))
       (ltb (span_length (kind_load no_span k)) (2 ^ 28)) (kind_misnamed rules span_length k)
       ∙ by (ltb delta (2 ^ 28)) (kind_fits rules k) (inside bytes (kind_load no_span k)) (ltb (span_length (kind_load no_span k)) (2 ^ 28)) (kind_misnamed rules span_length k)
-      ∙ ap (λ (a : Answer wire.Raw). pick (ltb delta (2 ^ 28)) (and_then a (λ raw. gives (raw_event delta raw))) (refuses 18)) (sym (kind-judged k)) where
+      ∙ ap (λ (a : Answer wire.Raw). pick (ltb delta (2 ^ 28)) (and_then a (λ raw. gives (raw_event delta raw))) (refuses 18)) (sym (kind_judged k)) where
         by : (d fits within short misnamed : Bool)
             → judged (d && fits) within short misnamed (raw_event delta (own k))
             ≡ pick d (and_then (judged fits within short misnamed (own k)) (λ raw. gives (raw_event delta raw))) (refuses 18)
@@ -75,33 +75,33 @@ module _ (rules : Rules) (bytes : List ℕ) where
   unfolding inside
   empty = le-leb 0 (length bytes) (omega arith)
 
-  pub midi-made : (channel : ℕ) (m : Message) → raw_kind rules bytes (midi channel m) ≡ pick (ltb channel 16 && message_fits rules m) (gives (raw_message channel m)) (refuses 18)
+  pub midi_made : (channel : ℕ) (m : Message) → raw_kind rules bytes (midi channel m) ≡ pick (ltb channel 16 && message_fits rules m) (gives (raw_message channel m)) (refuses 18)
   unfolding kind_fits carries map_kind raw_of
-  midi-made channel m = kind-judged (midi channel m) ∙ rw empty
+  midi_made channel m = kind_judged (midi channel m) ∙ rw empty
 
   -- F0 and F7
-  pub sys-ex-made : (p : Span) → raw_kind rules bytes (sys_ex p) ≡ lent bytes p (wire.system 0xF0 (bytes_of bytes p))
+  pub sys_ex_made : (p : Span) → raw_kind rules bytes (sys_ex p) ≡ lent bytes p (wire.system 0xF0 (bytes_of bytes p))
   unfolding kind_fits carries map_kind raw_of lent
-  sys-ex-made p = kind-judged (sys_ex p)
+  sys_ex_made p = kind_judged (sys_ex p)
 
-  pub escape-made : (p : Span) → raw_kind rules bytes (escape p) ≡ lent bytes p (wire.system 0xF7 (bytes_of bytes p))
+  pub escape_made : (p : Span) → raw_kind rules bytes (escape p) ≡ lent bytes p (wire.system 0xF7 (bytes_of bytes p))
   unfolding kind_fits carries map_kind raw_of lent
-  escape-made p = kind-judged (escape p)
+  escape_made p = kind_judged (escape p)
 
   -- metas with a payload
-  pub text-made : (t : ℕ) (p : Span) → is_text t ≡ true → raw_kind rules bytes (meta (text t p)) ≡ lent bytes p (wire.typed t (bytes_of bytes p))
+  pub text_made : (t : ℕ) (p : Span) → is_text t ≡ true → raw_kind rules bytes (meta (text t p)) ≡ lent bytes p (wire.typed t (bytes_of bytes p))
   unfolding kind_fits meta_fits carries meta_carries map_kind map_meta raw_of raw_meta lent
-  text-made t p f = kind-judged (meta (text t p)) ∙ rw f
+  text_made t p f = kind_judged (meta (text t p)) ∙ rw f
 
-  pub sequencer-made : (p : Span) → raw_kind rules bytes (meta (sequencer_specific p)) ≡ lent bytes p (wire.typed 0x7F (bytes_of bytes p))
+  pub sequencer_made : (p : Span) → raw_kind rules bytes (meta (sequencer_specific p)) ≡ lent bytes p (wire.typed 0x7F (bytes_of bytes p))
   unfolding kind_fits meta_fits carries meta_carries map_kind map_meta raw_of raw_meta lent
-  sequencer-made p = kind-judged (meta (sequencer_specific p))
+  sequencer_made p = kind_judged (meta (sequencer_specific p))
 
-  pub unknown-made : (t : ℕ) (p : Span)
+  pub unknown_made : (t : ℕ) (p : Span)
       → raw_kind rules bytes (meta (unknown t p)) ≡ and_then (lent bytes p (wire.typed t (bytes_of bytes p))) (λ raw. unless (not (is_named rules t p.length)) 23 (gives raw))
   unfolding kind_fits meta_fits carries meta_carries map_kind map_meta raw_of raw_meta lent
-  unknown-made t p =
-      kind-judged (meta (unknown t p)) ∙ by (inside bytes p) (ltb p.length (2 ^ 28)) where
+  unknown_made t p =
+      kind_judged (meta (unknown t p)) ∙ by (inside bytes p) (ltb p.length (2 ^ 28)) where
         by : (within short : Bool)
             → judged true within short (is_named rules t p.length) (wire.typed t (bytes_of bytes p))
             ≡ and_then (pick within (pick short (gives (wire.typed t (bytes_of bytes p))) (refuses 22)) (refuses 19)) (λ raw. unless (not (is_named rules t p.length)) 23 (gives raw))
@@ -110,53 +110,53 @@ module _ (rules : Rules) (bytes : List ℕ) where
         by false short = refl
 
   -- metas with none
-  own-made : (m : Meta Span) → load_or no_span (meta_carries m) ≡ no_span → misnamed rules span_length (meta_carries m) ≡ false
+  own_made : (m : Meta Span) → load_or no_span (meta_carries m) ≡ no_span → misnamed rules span_length (meta_carries m) ≡ false
       → raw_kind rules bytes (meta m) ≡ pick (meta_fits rules m) (gives (raw_meta (map_meta (bytes_of bytes) m))) (refuses 18)
   unfolding kind_fits carries map_kind raw_of
-  own-made m l n = kind-judged (meta m) ∙ rw (l, n, empty)
+  own_made m l n = kind_judged (meta m) ∙ rw (l, n, empty)
 
-  pub number-made : (n : ℕ) → raw_kind rules bytes (meta (track_number n)) ≡ pick (ltb n 65536) (gives (wire.typed 0x00 (n / 256 ∷ n % 256 ∷ []))) (refuses 18)
+  pub number_made : (n : ℕ) → raw_kind rules bytes (meta (track_number n)) ≡ pick (ltb n 65536) (gives (wire.typed 0x00 (n / 256 ∷ n % 256 ∷ []))) (refuses 18)
   unfolding meta_carries meta_fits map_meta raw_meta
-  number-made n = own-made (track_number n) refl refl
+  number_made n = own_made (track_number n) refl refl
 
   pub none_made : raw_kind rules bytes (meta no_track_number) ≡ gives (wire.typed 0x00 [])
   unfolding meta_carries meta_fits map_meta raw_meta
-  none_made = own-made no_track_number refl refl
+  none_made = own_made no_track_number refl refl
 
-  pub channel-made : (c : ℕ) → raw_kind rules bytes (meta (midi_channel c)) ≡ pick (ltb c 16) (gives (wire.typed 0x20 (c ∷ []))) (refuses 18)
+  pub channel_made : (c : ℕ) → raw_kind rules bytes (meta (midi_channel c)) ≡ pick (ltb c 16) (gives (wire.typed 0x20 (c ∷ []))) (refuses 18)
   unfolding meta_carries meta_fits map_meta raw_meta
-  channel-made c = own-made (midi_channel c) refl refl
+  channel_made c = own_made (midi_channel c) refl refl
 
-  pub port-made : (c : ℕ) → raw_kind rules bytes (meta (midi_port c)) ≡ pick (ltb c 128) (gives (wire.typed 0x21 (c ∷ []))) (refuses 18)
+  pub port_made : (c : ℕ) → raw_kind rules bytes (meta (midi_port c)) ≡ pick (ltb c 128) (gives (wire.typed 0x21 (c ∷ []))) (refuses 18)
   unfolding meta_carries meta_fits map_meta raw_meta
-  port-made c = own-made (midi_port c) refl refl
+  port_made c = own_made (midi_port c) refl refl
 
-  pub end-made : raw_kind rules bytes (meta end_of_track) ≡ gives (wire.typed 0x2F [])
+  pub end_made : raw_kind rules bytes (meta end_of_track) ≡ gives (wire.typed 0x2F [])
   unfolding meta_carries meta_fits map_meta raw_meta
-  end-made = own-made end_of_track refl refl
+  end_made = own_made end_of_track refl refl
 
-  pub tempo-made : (v : ℕ) → raw_kind rules bytes (meta (tempo v)) ≡ pick (ltb v 16777216) (gives (wire.typed 0x51 (v / 256 / 256 ∷ v / 256 % 256 ∷ v % 256 ∷ []))) (refuses 18)
+  pub tempo_made : (v : ℕ) → raw_kind rules bytes (meta (tempo v)) ≡ pick (ltb v 16777216) (gives (wire.typed 0x51 (v / 256 / 256 ∷ v / 256 % 256 ∷ v % 256 ∷ []))) (refuses 18)
   unfolding meta_carries meta_fits map_meta raw_meta
-  tempo-made v = own-made (tempo v) refl refl
+  tempo_made v = own_made (tempo v) refl refl
 
-  pub time-made : (t : Time) → raw_kind rules bytes (meta (smpte_offset t)) ≡ pick (is_time rules t) (gives (wire.typed 0x54 (time_bytes t))) (refuses 18)
+  pub time_made : (t : Time) → raw_kind rules bytes (meta (smpte_offset t)) ≡ pick (is_time rules t) (gives (wire.typed 0x54 (time_bytes t))) (refuses 18)
   unfolding meta_carries meta_fits map_meta raw_meta
-  time-made t = own-made (smpte_offset t) refl refl
+  time_made t = own_made (smpte_offset t) refl refl
 
-  pub signature-made : (a b c d : ℕ) → raw_kind rules bytes (meta (time_signature a b c d)) ≡ pick (ltb a 256 && ltb b 256 && ltb c 256 && ltb d 256) (gives (wire.typed 0x58 (a ∷ b ∷ c ∷ d ∷ []))) (refuses 18)
+  pub signature_made : (a b c d : ℕ) → raw_kind rules bytes (meta (time_signature a b c d)) ≡ pick (ltb a 256 && ltb b 256 && ltb c 256 && ltb d 256) (gives (wire.typed 0x58 (a ∷ b ∷ c ∷ d ∷ []))) (refuses 18)
   unfolding meta_carries meta_fits map_meta raw_meta
-  signature-made a b c d = own-made (time_signature a b c d) refl refl
+  signature_made a b c d = own_made (time_signature a b c d) refl refl
 
-  pub key-made : (sharps : ℤ) (minor : Bool) → raw_kind rules bytes (meta (key_signature sharps minor)) ≡ pick (ltb (mag sharps) 128) (gives (wire.typed 0x59 (byte_of_signed sharps ∷ pick minor 1 0 ∷ []))) (refuses 18)
+  pub key_made : (sharps : ℤ) (minor : Bool) → raw_kind rules bytes (meta (key_signature sharps minor)) ≡ pick (ltb (mag sharps) 128) (gives (wire.typed 0x59 (byte_of_signed sharps ∷ pick minor 1 0 ∷ []))) (refuses 18)
   unfolding meta_carries meta_fits map_meta raw_meta
-  key-made sharps minor = own-made (key_signature sharps minor) refl refl
+  key_made sharps minor = own_made (key_signature sharps minor) refl refl
 
   -- fields that have a whole byte are within it
-  pub signature-fits : {a b c d : ℕ} → a < 256 → b < 256 → c < 256 → d < 256 → raw_kind rules bytes (meta (time_signature a b c d)) ≡ gives (wire.typed 0x58 (a ∷ b ∷ c ∷ d ∷ []))
-  signature-fits {a} {b} {c} {d} ha hb hc hd = signature-made a b c d ∙ rw (lt-ltb a 256 ha, lt-ltb b 256 hb, lt-ltb c 256 hc, lt-ltb d 256 hd)
+  pub signature_fits : {a b c d : ℕ} → a < 256 → b < 256 → c < 256 → d < 256 → raw_kind rules bytes (meta (time_signature a b c d)) ≡ gives (wire.typed 0x58 (a ∷ b ∷ c ∷ d ∷ []))
+  signature_fits {a} {b} {c} {d} ha hb hc hd = signature_made a b c d ∙ rw (lt-ltb a 256 ha, lt-ltb b 256 hb, lt-ltb c 256 hc, lt-ltb d 256 hd)
 
   pub key_fits : (sharps : ℤ) (minor : Bool) → mag sharps < 128 → raw_kind rules bytes (meta (key_signature sharps minor)) ≡ gives (wire.typed 0x59 (byte_of_signed sharps ∷ pick minor 1 0 ∷ []))
-  key_fits sharps minor h = key-made sharps minor ∙ rw (lt-ltb (mag sharps) 128 h)
+  key_fits sharps minor h = key_made sharps minor ∙ rw (lt-ltb (mag sharps) 128 h)
 
   -- an SMPTE time, by what its encoding answers
   module _ (t : Time) where
@@ -165,13 +165,13 @@ module _ (rules : Rules) (bytes : List ℕ) where
     unfolding encode_time
     time-given r a b c d e says is =
         let g = given (is_time rules t) (time_bytes t) 18 (sym (ap encoded_smpte_time (sym is) ∙ says)) in
-        rw (time-made t, g.0) (ap (λ (l : List ℕ). gives (wire.typed 0x54 l)) (sym g.1))
+        rw (time_made t, g.0) (ap (λ (l : List ℕ). gives (wire.typed 0x54 l)) (sym g.1))
 
     pub time-refused : (r : EncodedSmpteTime) (n : Refusal) → encoded_smpte_time r ≡ encode_time rules t → r ≡ Refused n
         → refuses 18 ≡ raw_kind rules bytes (meta (smpte_offset t))
     unfolding encode_time
     time-refused r n says is =
-        rw (time-made t)
+        rw (time_made t)
         (by-test (is_time rules t)
         (λ (e : is_time rules t ≡ true). let z : ◌≡◌ {A = ℕ} 0 1 = cc in absurd (omega arith))
         (λ e. rw e))

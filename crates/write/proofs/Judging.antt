@@ -12,7 +12,7 @@ use Rattle.smf.specs.Event.{Event, legal}
 use Rattle.smf.specs.Lists.{records_judged}
 use Rattle.smf.proofs.Legal.{is_legal}
 use Rattle.smf.proofs.Answer.{by_answer}
-use Rattle.smf.proofs.ListLegality.{given-itself}
+use Rattle.smf.proofs.ListLegality.{given_itself}
 use Rattle.track.specs.List.{record_of}
 use Rattle.track.specs.declared.list.Record.{Record}
 use Rattle.track.proofs.Held.{past}
@@ -39,8 +39,8 @@ module _ (rules : Rules) (bytes : List ℕ) where
         ∙ ap (legal rules bytes) (get_or-map record_of records i past)
 
   -- a record that is given is legal
-  pub record-lawful : (r : Event Span) (e : Event (List ℕ)) → legal rules bytes r ≡ gives e → is_legal rules e ≡ true
-  record-lawful r e h = (given-itself rules bytes r e h).1
+  pub record_lawful : (r : Event Span) (e : Event (List ℕ)) → legal rules bytes r ≡ gives e → is_legal rules e ≡ true
+  record_lawful r e h = (given_itself rules bytes r e h).1
 
 -- The rows that count
 
@@ -74,7 +74,7 @@ module _ (rules : Rules) (bytes : List ℕ) where
   pub row_lawful : (r : List ℕ) (e : Event (List ℕ)) → row_judged rules bytes r ≡ gives e → is_legal rules e ≡ true
   unfolding row_judged
   row_lawful r e h =
-      by_answer (event_of_row r) (λ x (k : event_of_row r ≡ gives x). record-lawful rules bytes x e (rw k at h))
+      by_answer (event_of_row r) (λ x (k : event_of_row r ≡ gives x). record_lawful rules bytes x e (rw k at h))
       (λ n (k : event_of_row r ≡ refuses n). let q : ◌≡◌ {A = Answer (Event (List ℕ))} (refuses n) (gives e) = rw k at h in let z : ◌≡◌ {A = ℕ} 0 1 = cc in absurd (omega arith))
 
   -- a row that is not all there is no event's

@@ -17,28 +17,28 @@ use Rattle.write.specs.Raw.{status_bytes, data_bytes, wire_of, is_sound, raw_len
 use Rattle.write.specs.Size.{size, raw_size}
 use Rattle.write.specs.declared.raw.Raw.{Raw}
 use Rattle.write.specs.declared.raw.Raw.TheVariants as raw
-use Rattle.write.proofs.Payloads.{lent-inside, load-length, own_length}
-use Rattle.write.proofs.Channels.{channel-wire, channel-after, data-length}
+use Rattle.write.proofs.Payloads.{lent_inside, load_length_lem, own_length}
+use Rattle.write.proofs.Channels.{channel_wire, channel_after, data_length_lem}
 
 module _ (bytes : List ℕ) where
-  pub sound-short : (r : Raw) → is_sound bytes r ≡ true → Short r
+  pub sound_short : (r : Raw) → is_sound bytes r ≡ true → Short r
   unfolding is_sound Short
-  sound-short (raw.Channel c) e = tt
-  sound-short (raw.System status load) e = (lent-inside bytes (span_of load) e).short
-  sound-short (raw.Typed t load) e = (lent-inside bytes (span_of load) e).short
-  sound-short (raw.Fixed t own) e = omega (arith, leb-true own.n 5 e)
+  sound_short (raw.Channel c) e = tt
+  sound_short (raw.System status load) e = (lent_inside bytes (span_of load) e).short
+  sound_short (raw.Typed t load) e = (lent_inside bytes (span_of load) e).short
+  sound_short (raw.Fixed t own) e = omega (arith, leb-true own.n 5 e)
 
   module _ (running : ℕ) where
     pub raw-length : (r : Raw) → is_sound bytes r ≡ true → length (encode_raw running (wire_of bytes r)) ≡ raw_length running r
     unfolding is_sound raw_length wire_of encode_raw
-    raw-length (raw.Channel c) e = ap length (channel-wire running c) ∙ length-append (status_bytes running c.status) (data_bytes c) ∙ rw (data-length running c)
-    raw-length (raw.System status load) e = omega (arith, load-length bytes (span_of load) (lent-inside bytes (span_of load) e))
-    raw-length (raw.Typed t load) e = omega (arith, load-length bytes (span_of load) (lent-inside bytes (span_of load) e))
+    raw-length (raw.Channel c) e = ap length (channel_wire running c) ∙ length-append (status_bytes running c.status) (data_bytes c) ∙ rw (data_length_lem running c)
+    raw-length (raw.System status load) e = omega (arith, load_length_lem bytes (span_of load) (lent_inside bytes (span_of load) e))
+    raw-length (raw.Typed t load) e = omega (arith, load_length_lem bytes (span_of load) (lent_inside bytes (span_of load) e))
     raw-length (raw.Fixed t own) e = omega (arith, own_length own (leb-true own.n 5 e))
 
     pub raw-after : (r : Raw) → running_after (wire_of bytes r) ≡ raw_after r
     unfolding wire_of raw_after
-    raw-after (raw.Channel c) = channel-after running c
+    raw-after (raw.Channel c) = channel_after running c
     raw-after (raw.System status load) = refl
     raw-after (raw.Typed t load) = refl
     raw-after (raw.Fixed t own) = refl

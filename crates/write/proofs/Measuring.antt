@@ -19,7 +19,7 @@ use Rattle.write.specs.Size.{size_of, length_said, size_judged}
 use Rattle.write.specs.declared.answer.Size.{Size}
 use Rattle.write.specs.declared.answer.EventLength.{EventLength}
 use Rattle.write.specs.declared.answer.EventLength.TheVariants as event
-use Rattle.write.proofs.EventSizes.{Sized, size-refused, size-given}
+use Rattle.write.proofs.EventSizes.{Sized, size_refused, size_given}
 use Rattle.write.proofs.Most.{most, event_most}
 
 module _ (running : ℕ) (js : List (Answer (Event (List ℕ)))) where
@@ -45,11 +45,11 @@ module _ (running : ℕ) (js : List (Answer (Event (List ℕ)))) where
     pub seen-illegal : (m : Refusal) → a ≡ event.Refused m → unsized running (number_of m) i ≡ size_checked running (check 0 js)
     unfolding size_checked
     seen-illegal m e =
-        rw (legal_stops js i d h.events more h.legal (there ∙ size-refused status j (number_of m) (sym said ∙ ap length_said e)))
+        rw (legal_stops js i d h.events more h.legal (there ∙ size_refused status j (number_of m) (sym said ∙ ap length_said e)))
 
     module _ (rules : Rules) (lawful : (e : Event (List ℕ)) → j ≡ gives e → is_legal rules e ≡ true) (s : Size) (e : a ≡ event.Length s) where
       sized : Sized status j (size_of s)
-      sized = size-given status j (size_of s) (sym said ∙ ap length_said e)
+      sized = size_given status j (size_of s) (sym said ∙ ap length_said e)
 
       same_length : s.length ≡ length (encode_event status sized.event)
       same_length = ap (λ (x : sizes.Size). x.length) sized.size

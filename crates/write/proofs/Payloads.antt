@@ -12,7 +12,7 @@ use Rattle.smf.specs.Answer.{pick, gives, refuses}
 use Rattle.smf.specs.Place.{Span, inside, bytes_of}
 use Rattle.smf.specs.Payload.{encode_payload}
 use Rattle.smf.proofs.Answer.{both}
-use Rattle.smf.proofs.Write.{payload-size, part_length}
+use Rattle.smf.proofs.Write.{payload_size, part_length}
 use Rattle.base.specs.Refusal.{number_of}
 use Rattle.base.specs.declared.Refusal.{Refusal}
 use Rattle.write.specs.Raw.{lent, is_lent, own_list, own_bytes, load_length, looked_said, Inside}
@@ -21,27 +21,27 @@ use Rattle.write.specs.declared.make.Looked.{Looked}
 use Rattle.write.specs.declared.make.Looked.TheVariants as looked
 
 module _ (bytes : List ℕ) (span : Span) where
-  pub lent-inside : is_lent bytes span ≡ true → Inside bytes span
+  pub lent_inside : is_lent bytes span ≡ true → Inside bytes span
   unfolding is_lent inside
-  lent-inside e =
+  lent_inside e =
       let p = both (leb (span.start + span.length) (length bytes)) (ltb span.length (2 ^ 28)) e in
       record { within = leb-true _ _ p.0; short = ltb-true _ _ p.1 }
 
-  pub load-length : Inside bytes span → length (encode_payload (bytes_of bytes span)) ≡ load_length span.length
-  load-length h = payload-size (bytes_of bytes span) [] 0 span.length (part_length bytes span h.within)
+  pub load_length_lem : Inside bytes span → length (encode_payload (bytes_of bytes span)) ≡ load_length span.length
+  load_length_lem h = payload_size (bytes_of bytes span) [] 0 span.length (part_length bytes span h.within)
 
   -- by the three tests
-  pub lent-outside : {A : Type 0} (x : A) → length bytes < span.start + span.length → lent bytes span x ≡ refuses 19
+  pub lent_outside : {A : Type 0} (x : A) → length bytes < span.start + span.length → lent bytes span x ≡ refuses 19
   unfolding lent inside
-  lent-outside x h = rw (lt-leb _ _ h)
+  lent_outside x h = rw (lt-leb _ _ h)
 
-  pub lent-long : {A : Type 0} (x : A) → span.start + span.length ≤ length bytes → 2 ^ 28 ≤ span.length → lent bytes span x ≡ refuses 22
+  pub lent_long : {A : Type 0} (x : A) → span.start + span.length ≤ length bytes → 2 ^ 28 ≤ span.length → lent bytes span x ≡ refuses 22
   unfolding lent inside
-  lent-long x h g = rw (le-leb _ _ h, le-ltb _ _ g)
+  lent_long x h g = rw (le-leb _ _ h, le-ltb _ _ g)
 
-  pub lent-there : {A : Type 0} (x : A) → span.start + span.length ≤ length bytes → span.length < 2 ^ 28 → lent bytes span x ≡ gives x
+  pub lent_there : {A : Type 0} (x : A) → span.start + span.length ≤ length bytes → span.length < 2 ^ 28 → lent bytes span x ≡ gives x
   unfolding lent inside
-  lent-there x h g = rw (le-leb _ _ h, lt-ltb _ _ g)
+  lent_there x h g = rw (le-leb _ _ h, lt-ltb _ _ g)
 
   -- what was looked at, says the same of whatever has the payload
   module _ (r : Looked) (says : looked_said r ≡ lent bytes span tt) where
@@ -63,4 +63,4 @@ module _ (bytes : List ℕ) (span : Span) where
 
 -- no more than five bytes of its own
 pub own_length : (own : Own) → own.n ≤ 5 → length (encode_payload (own_bytes own)) ≡ load_length own.n
-own_length own h = payload-size (own_bytes own) [] 0 own.n (length-take-le own.n (own_list own) h)
+own_length own h = payload_size (own_bytes own) [] 0 own.n (length-take-le own.n (own_list own) h)

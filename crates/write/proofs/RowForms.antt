@@ -22,7 +22,7 @@ use Rattle.smf.proofs.Signed.{signed_low, signed_high}
 use Rattle.rows.specs.Rows.{width}
 use Rattle.rows.specs.RowEvent.{are_bytes, fields_fit, cell, is_row, row_message, row_meta, row_kind, row_span, called_row, event_of_row, row_judged}
 use Rattle.write.specs.Raw.{raw_judged, raw_kind, data_of}
-use Rattle.write.proofs.Forms.{behind-delta, midi-made, bend_fits}
+use Rattle.write.proofs.Forms.{behind_delta, midi_made, bend_fits}
 
 -- a test that another one implies need not be made before it
 pub narrower : {A : Type 0} (s t : Bool) (x y : A) → (t ≡ true → s ≡ true) → pick s (pick t x y) y ≡ pick t x y
@@ -100,25 +100,25 @@ module _ (rules : Rules) (bytes : List ℕ) (a b c d e f : ℕ) where
       rw (h, and-true (ltb b 128))
       (sym (narrower (are_bytes a b 0 0 0) (ltb a 16 && ltb b 128) (gives x) (refuses 18) (λ t. data_bytes_lem a b 0 (rw (and-true (ltb b 128)) t))))
 
-  bend-bytes : (ltb a 16 && ltb b 16384) ≡ true → (ltb b 65536 && ltb a 256) ≡ true
-  bend-bytes h =
+  bend_bytes : (ltb a 16 && ltb b 16384) ≡ true → (ltb b 65536 && ltb a 256) ≡ true
+  bend_bytes h =
       let p = both (ltb a 16) (ltb b 16384) h in
       rw (small b 16384 65536 (omega arith) p.1, small a 16 256 (omega arith) p.0)
 
   -- a channel message's row, by its data bytes
-  pub message-row : (n : ℕ) → 8 ≤ n → n < 15 → Data n ≡ Row n
+  pub message_row : (n : ℕ) → 8 ≤ n → n < 15 → Data n ≡ Row n
   unfolding data_of fields_fit row_message message_fits kind.raw_message
-  message-row n low high =
+  message_row n low high =
       by_number n low high
-      (λ h. rw h (two (kind.note_off b c) (wire.two (0x80 + a) b c) (midi-made rules bytes a (kind.note_off b c))))
-      (λ h. rw h (two (kind.note_on b c) (wire.two (0x90 + a) b c) (midi-made rules bytes a (kind.note_on b c))))
-      (λ h. rw h (two (kind.aftertouch b c) (wire.two (0xA0 + a) b c) (midi-made rules bytes a (kind.aftertouch b c))))
-      (λ h. rw h (two (kind.controller b c) (wire.two (0xB0 + a) b c) (midi-made rules bytes a (kind.controller b c))))
-      (λ h. rw h (one (kind.program_change b) (wire.one (0xC0 + a) b) (midi-made rules bytes a (kind.program_change b))))
-      (λ h. rw h (one (kind.channel_aftertouch b) (wire.one (0xD0 + a) b) (midi-made rules bytes a (kind.channel_aftertouch b))))
+      (λ h. rw h (two (kind.note_off b c) (wire.two (0x80 + a) b c) (midi_made rules bytes a (kind.note_off b c))))
+      (λ h. rw h (two (kind.note_on b c) (wire.two (0x90 + a) b c) (midi_made rules bytes a (kind.note_on b c))))
+      (λ h. rw h (two (kind.aftertouch b c) (wire.two (0xA0 + a) b c) (midi_made rules bytes a (kind.aftertouch b c))))
+      (λ h. rw h (two (kind.controller b c) (wire.two (0xB0 + a) b c) (midi_made rules bytes a (kind.controller b c))))
+      (λ h. rw h (one (kind.program_change b) (wire.one (0xC0 + a) b) (midi_made rules bytes a (kind.program_change b))))
+      (λ h. rw h (one (kind.channel_aftertouch b) (wire.one (0xD0 + a) b) (midi_made rules bytes a (kind.channel_aftertouch b))))
       (λ h.
-      rw (h, bend_fits b, midi-made rules bytes a (kind.pitch_bend b))
-      (sym (narrower (ltb b 65536 && ltb a 256) (ltb a 16 && ltb b 16384) (gives (wire.two (0xE0 + a) (b % 128) (b / 128))) (refuses 18) bend-bytes)))
+      rw (h, bend_fits b, midi_made rules bytes a (kind.pitch_bend b))
+      (sym (narrower (ltb b 65536 && ltb a 256) (ltb a 16 && ltb b 16384) (gives (wire.two (0xE0 + a) (b % 128) (b / 128))) (refuses 18) bend_bytes)))
 
   -- a number that is no other kind's is a text's, or none
   module _ (n : ℕ) (low : 15 ≤ n) (f0 : n ≡ 0xF0 → ⊥) (f7 : n ≡ 0xF7 → ⊥)
@@ -169,20 +169,20 @@ rate_given rate r h = given (is_rate rate) rate 16 (sym h)
 
 -- what writers make of a row
 module _ (rules : Rules) (bytes : List ℕ) (r : List ℕ) where
-  row-called : is_row r ≡ true → raw_judged (row_judged rules bytes r) ≡ raw_judged (legal rules bytes (called_row r))
+  row_called : is_row r ≡ true → raw_judged (row_judged rules bytes r) ≡ raw_judged (legal rules bytes (called_row r))
   unfolding row_judged event_of_row
-  row-called t = rw t
+  row_called t = rw t
 
-  row-none : is_row r ≡ false → raw_judged (row_judged rules bytes r) ≡ refuses 18
+  row_none : is_row r ≡ false → raw_judged (row_judged rules bytes r) ≡ refuses 18
   unfolding row_judged event_of_row raw_judged
-  row-none t = rw t
+  row_none t = rw t
 
-  pub row-wide : 2 ^ 28 ≤ cell r 0 → refuses 18 ≡ raw_judged (row_judged rules bytes r)
+  pub row_wide : 2 ^ 28 ≤ cell r 0 → refuses 18 ≡ raw_judged (row_judged rules bytes r)
   unfolding called_row
-  row-wide h =
+  row_wide h =
       by-test (is_row r)
-      (λ t. rw (row-called t, behind-delta rules bytes (cell r 0), le-ltb (cell r 0) (2 ^ 28) h))
-      (λ t. sym (row-none t))
+      (λ t. rw (row_called t, behind_delta rules bytes (cell r 0), le-ltb (cell r 0) (2 ^ 28) h))
+      (λ t. sym (row_none t))
 
   abbrev fields : Bool
   fields = fields_fit (cell r 1) (cell r 2) (cell r 3) (cell r 4) (cell r 5) (cell r 6) (cell r 7)
@@ -192,16 +192,16 @@ module _ (rules : Rules) (bytes : List ℕ) (r : List ℕ) where
       pick (fields_fit (cell r 1) (cell r 2) (cell r 3) (cell r 4) (cell r 5) (cell r 6) (cell r 7))
       (raw_kind rules bytes (row_kind (cell r 1) (cell r 2) (cell r 3) (cell r 4) (cell r 5) (cell r 6) (cell r 7) (row_span r))) (refuses 18)
 
-  is-fields : width ≤ length r → cell r 0 < 2 ^ 32 → is_row r ≡ fields
+  is_fields : width ≤ length r → cell r 0 < 2 ^ 32 → is_row r ≡ fields
   unfolding is_row
-  is-fields long wide = rw (le-leb width (length r) long, lt-ltb (cell r 0) (2 ^ 32) wide)
+  is_fields long wide = rw (le-leb width (length r) long, lt-ltb (cell r 0) (2 ^ 32) wide)
 
-  pub row-narrow : width ≤ length r → cell r 0 < 2 ^ 28
+  pub row_narrow : width ≤ length r → cell r 0 < 2 ^ 28
       → raw_judged (row_judged rules bytes r) ≡ pick (ltb (cell r 0) (2 ^ 28)) (and_then made (λ raw. gives (raw_event (cell r 0) raw))) (refuses 18)
   unfolding called_row
-  row-narrow long h =
+  row_narrow long h =
       let wide : cell r 0 < 2 ^ 32 = omega (arith, h) in
-      let all = is-fields long wide in
+      let all = is_fields long wide in
       by-test fields
-      (λ t. rw (row-called (all ∙ t), t) (behind-delta rules bytes (cell r 0) (row_kind (cell r 1) (cell r 2) (cell r 3) (cell r 4) (cell r 5) (cell r 6) (cell r 7) (row_span r))))
-      (λ t. rw (row-none (all ∙ t), t, lt-ltb (cell r 0) (2 ^ 28) h))
+      (λ t. rw (row_called (all ∙ t), t) (behind_delta rules bytes (cell r 0) (row_kind (cell r 1) (cell r 2) (cell r 3) (cell r 4) (cell r 5) (cell r 6) (cell r 7) (row_span r))))
+      (λ t. rw (row_none (all ∙ t), t, lt-ltb (cell r 0) (2 ^ 28) h))

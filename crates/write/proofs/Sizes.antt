@@ -13,13 +13,13 @@ use Rattle.smf.specs.Event.{Event}
 use Rattle.smf.specs.Lists.{Checked, all_legal, illegal, check, encode_list, list_after, ListAnswer, wrote, refuses_at, ListSize, unsized, size_checked, size_list, ListWritten, list_left, write_checked, write_list}
 use Rattle.smf.proofs.Answer.{pick_test}
 use Rattle.smf.proofs.ListLegality.{check_legal}
-use Rattle.smf.proofs.ListWrites.{write-invalid, write-many, write-illegal, write-full, write-fits}
+use Rattle.smf.proofs.ListWrites.{write_invalid, write_many, write_illegal, write_full, write-fits}
 use Rattle.write.specs.ListAnswers.{RoomFor, InFront}
 
 module _ (most running : ℕ) (judged : List (Answer (Event (List ℕ)))) (count : ℕ) where
-  pub size-invalid : is_running running ≡ false → unsized running 1 0 ≡ size_list most running judged count
+  pub size_invalid : is_running running ≡ false → unsized running 1 0 ≡ size_list most running judged count
   unfolding size_list
-  size-invalid v = rw v
+  size_invalid v = rw v
 
   module _ (v : is_running running ≡ true) where
     pub size-many : most < count → unsized running 21 0 ≡ size_list most running judged count
@@ -48,10 +48,10 @@ module _ (most running : ℕ) (judged : List (Answer (Event (List ℕ)))) (count
     abbrev Good : ListSize → Type 0
     Good s = Says s s.answer
 
-    checked-says : is_running running ≡ true → count ≤ most → (c : Checked) → check 0 (take count judged) ≡ c → Good (size_checked running c)
+    checked_says : is_running running ≡ true → count ≤ most → (c : Checked) → check 0 (take count judged) ≡ c → Good (size_checked running c)
     unfolding size_checked
-    checked-says v few (illegal n i) e = sym (write-illegal most running judged count buffer v few e)
-    checked-says v few (all_legal es) e =
+    checked_says v few (illegal n i) e = sym (write_illegal most running judged count buffer v few e)
+    checked_says v few (all_legal es) e =
         record { valid = v; few = few; events = es; legal = (check_legal 0 (take count judged) es).0 e; size = refl; after = refl }
 
     says : Good (size_list most running judged count)
@@ -59,9 +59,9 @@ module _ (most running : ℕ) (judged : List (Answer (Event (List ℕ)))) (count
     says =
         pick_test Good (is_running running)
         (λ v. pick_test Good (leb count most)
-        (λ few. checked-says v (leb-true _ _ few) (check 0 (take count judged)) refl)
-        (λ many. sym (write-many most running judged count buffer v (leb-false _ _ many))))
-        (λ v. sym (write-invalid most running judged count buffer v))
+        (λ few. checked_says v (leb-true _ _ few) (check 0 (take count judged)) refl)
+        (λ many. sym (write_many most running judged count buffer v (leb-false _ _ many))))
+        (λ v. sym (write_invalid most running judged count buffer v))
 
     pub unsized-left : (left n i : ℕ) → unsized left n i ≡ size_list most running judged count
         → list_left left buffer n i ≡ write_list most running judged count buffer
@@ -80,7 +80,7 @@ module _ (most running : ℕ) (judged : List (Answer (Event (List ℕ)))) (count
       pub sized-full : length buffer < n → list_left running buffer 20 0 ≡ write_list most running judged count buffer
       sized-full h =
           let s = sized in
-          sym (write-full most running judged count buffer s.valid s.few s.events s.legal (rw (← s.size) h))
+          sym (write_full most running judged count buffer s.valid s.few s.events s.legal (rw (← s.size) h))
 
       pub sized-put : n ≤ length buffer → (end : List ℕ) → InFront running (take count judged) buffer end
           → record { buffer = end; answer = wrote n; running = after } ≡ write_list most running judged count buffer

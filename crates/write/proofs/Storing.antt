@@ -15,7 +15,7 @@ use Rattle.smf.specs.Payload.{encode_payload}
 use Rattle.smf.specs.Write.{Written, over, put, write, payload_bytes}
 use Rattle.smf.proofs.Answer.{by-test}
 use Rattle.smf.proofs.Number.{ahead_none}
-use Rattle.smf.proofs.Write.{over_over, length_over, put-fits, part_bytes, part_length, payload-size}
+use Rattle.smf.proofs.Write.{over_over, length_over, put_fits, part_bytes, part_length, payload_size}
 use Rattle.write.specs.declared.raw.Channel.{Channel}
 use Rattle.write.specs.Raw.{status_bytes, data_bytes}
 use Rattle.write.specs.Raw.{load_length, Inside}
@@ -66,20 +66,20 @@ pub payload_written : (bytes : List ℕ) (span : Span) (s : List ℕ) (at : ℕ)
 unfolding bytes_of
 payload_written bytes span s at w i h e =
     let p = take span.length (drop span.start bytes) in
-    let l = payload-size p s at span.length (part_length bytes span i.within) in
+    let l = payload_size p s at span.length (part_length bytes span i.within) in
     ap (λ (x : Written). x.buffer)
-    (e ∙ ap (λ (a : Answer (List ℕ)). write a s at) (part_bytes bytes span.start span.length i.within i.short) ∙ sym (put-fits (encode_payload p) s at (omega arith)))
+    (e ∙ ap (λ (a : Answer (List ℕ)). write a s at) (part_bytes bytes span.start span.length i.within i.short) ∙ sym (put_fits (encode_payload p) s at (omega arith)))
 
 -- two parts of what is to be written, where there is room for both
 module _ (a b s : List ℕ) (at : ℕ) where
-  pub first-room : at + length (a ++ b) ≤ length s → at + length a ≤ length s
-  first-room h = omega (arith, length-append a b)
+  pub first_room : at + length (a ++ b) ≤ length s → at + length a ≤ length s
+  first_room h = omega (arith, length-append a b)
 
   module _ {next : ℕ} {after : List ℕ} (d : Stored s at a next after) (h : at + length (a ++ b) ≤ length s) where
     pub second-room : next + length b ≤ length after
-    second-room = omega (arith, length-append a b, d.place, stored_length d (first-room h))
+    second-room = omega (arith, length-append a b, d.place, stored_length d (first_room h))
 
     pub both-put : (end : List ℕ) → end ≡ over b after next → put (a ++ b) s at ≡ record { buffer = end; answer = gives (at + length (a ++ b)) }
     both-put end e =
-        sym (put-fits (a ++ b) s at h)
+        sym (put_fits (a ++ b) s at h)
         ∙ ap (λ (l : List ℕ). record { buffer = l; answer = gives (at + length (a ++ b)) }) (sym (e ∙ over_both b d (omega arith)))

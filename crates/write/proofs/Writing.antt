@@ -12,7 +12,7 @@ use Rattle.smf.specs.Kind.{raw_of}
 use Rattle.smf.specs.Write.{over}
 use Rattle.smf.specs.Event.{Event, EventWritten, event_written, encode_event, event_after}
 use Rattle.smf.specs.Lists.{encode_list, list_after}
-use Rattle.smf.proofs.Write.{length_over, over_over, put-fits}
+use Rattle.smf.proofs.Write.{length_over, over_over, put_fits}
 use Rattle.smf.proofs.ListLegality.{given_once, given_length}
 use Rattle.smf.proofs.ListWrites.{encode_behind, after_behind}
 use Rattle.write.specs.Raw.{raw_judged}
@@ -52,9 +52,9 @@ module _ (running : ℕ) (js : List (Answer (Event (List ℕ)))) (before : List 
     pub after : status ≡ list_after running (take i events)
     pub buffer : out ≡ over (encode_list running (take i events)) before 0
 
-  pub going-first : RoomFor running js (length before) → Going before 0 running 0
+  pub going_first : RoomFor running js (length before) → Going before 0 running 0
   unfolding encode_list list_after
-  going-first f = record { events = f.0; legal = f.1; room = f.2; within = omega arith; stands = refl; after = refl; buffer = refl }
+  going_first f = record { events = f.0; legal = f.1; room = f.2; within = omega arith; stands = refl; after = refl; buffer = refl }
 
   module _ {out : List ℕ} {place status i : ℕ} (g : Going out place status i) where
     -- the bytes of so many events
@@ -110,7 +110,7 @@ module _ (running : ℕ) (js : List (Answer (Event (List ℕ)))) (before : List 
         is =
             e
             ∙ ap (λ (y : Answer (Event (List ℕ))). write_raw status (raw_judged y) out place) next.1
-            ∙ sym (ap (event_written status (event_after whole)) (put-fits (encode_event status whole) out place fits))
+            ∙ sym (ap (event_written status (event_after whole)) (put_fits (encode_event status whole) out place fits))
 
         pub going-never : (n : WriteRefused) → r ≡ wrote.Refused n → ⊥
         going-never n h =

@@ -1,7 +1,7 @@
 -- `smpte_offset` meets its contract, by the form of its type.
 use mathlib.Core.Path.{◌≡◌, ◌∙◌, refl, sym, ap}
 use native.Mathlib.Omega.{arith}
-use Rattle.smf.proofs.CalledAt.{form-smpte, short, called-time, called-no-time}
+use Rattle.smf.proofs.CalledAt.{form_smpte, short, called-time, called-no-time}
 use Rattle.header.specs.Smpte.{tried_smpte_time}
 use Rattle.base.specs.Rules.{rules_of}
 use Rattle.number.specs.Payload.{payload_of}
@@ -13,7 +13,7 @@ returns : tie.Need-returns
 returns c =
     let a = c.before.before.before.before.before.args in
     c.message.ensures
-    ∙ short (rules_of a.rules) a.raw.now (λ i. (c.before.before.before.before.shared-slice-known.given i).fits) (payload_of a.load) c.before.before.before.before.before.requires 0x54 5 _ (form-smpte _ _) c.before.if1.true
+    ∙ short (rules_of a.rules) a.raw.now (λ i. (c.before.before.before.before.shared-slice-known.given i).fits) (payload_of a.load) c.before.before.before.before.before.requires 0x54 5 _ (form_smpte _ _) c.before.if1.true
 
 returns-2 : tie.Need-returns-2
 returns-2 c =

@@ -2,7 +2,7 @@
 use mathlib.Core.Path.{◌≡◌, ◌∙◌, refl, sym, ap}
 use native.Mathlib.Omega.{arith}
 use Rattle.smf.specs.Kind.{tempo}
-use Rattle.smf.proofs.CalledAt.{form-tempo, short, called-tempo}
+use Rattle.smf.proofs.CalledAt.{form_tempo, short, called_tempo}
 use Rattle.base.specs.Rules.{rules_of}
 use Rattle.number.specs.Payload.{payload_of}
 use borrow.Author.Rules.{rules}
@@ -13,7 +13,7 @@ returns : tie.Need-returns
 returns c =
     let a = c.before.before.before.before.before.args in
     c.message.ensures
-    ∙ short (rules_of a.rules) a.raw.now (λ i. (c.before.before.before.before.shared-slice-known.given i).fits) (payload_of a.load) c.before.before.before.before.before.requires 0x51 3 _ (form-tempo _ _) c.before.if1.true
+    ∙ short (rules_of a.rules) a.raw.now (λ i. (c.before.before.before.before.shared-slice-known.given i).fits) (payload_of a.load) c.before.before.before.before.before.requires 0x51 3 _ (form_tempo _ _) c.before.if1.true
 
 cast-high : tie.Need-overflow-cast-high
 cast-high c = omega (arith, c.shared-slice-known2.given c.before.before.before.before.before.args.load.range.start)
@@ -29,7 +29,7 @@ returns-2 c =
     let p = c.before.before.before.before.before in
     let a = p.before.before.before.before.args in
     c.message2.ensures
-    ∙ rw c.before.word.ensures (called-tempo (rules_of a.rules) a.raw.now (λ i. (p.before.before.before.shared-slice-known.given i).fits) (payload_of a.load) p.before.before.before.before.requires p.if1.false)
+    ∙ rw c.before.word.ensures (called_tempo (rules_of a.rules) a.raw.now (λ i. (p.before.before.before.shared-slice-known.given i).fits) (payload_of a.load) p.before.before.before.before.requires p.if1.false)
 
 pub tempo-spec : {M : Type 1} → statement M
 tempo-spec =

@@ -2,7 +2,7 @@
 use mathlib.Core.Path.{◌≡◌, ◌∙◌, refl, sym, ap}
 use native.Mathlib.Omega.{arith}
 use mathlib.Core.Bool.{true}
-use Rattle.smf.proofs.CalledAt.{called-number, called-no-number}
+use Rattle.smf.proofs.CalledAt.{called_number, called_no_number}
 use Rattle.number.specs.Payload.{payload_of}
 use borrow.Author.Rules.{rules}
 use Rattle.meta.proofs.track_number.Statement.{statement}
@@ -11,12 +11,12 @@ use Rattle.meta.proofs.track_number.Tie as tie
 returns : tie.Need-returns
 returns c =
     let a = c.before.before.before.before.before.before.args in
-    rw c.word.ensures (called-number (record { strict = true }) a.raw.now (λ i. (c.before.before.before.before.before.shared-slice-known.given i).fits) (payload_of a.load) c.before.before.before.before.before.before.requires c.before.before.before.if1.true)
+    rw c.word.ensures (called_number (record { strict = true }) a.raw.now (λ i. (c.before.before.before.before.before.shared-slice-known.given i).fits) (payload_of a.load) c.before.before.before.before.before.before.requires c.before.before.before.if1.true)
 
 returns-2 : tie.Need-returns-2
 returns-2 c =
     let a = c.before.before.before.args in
-    called-no-number (record { strict = true }) a.raw.now (λ i. (c.before.before.shared-slice-known.given i).fits) (payload_of a.load) c.before.before.before.requires c.if1.false
+    called_no_number (record { strict = true }) a.raw.now (λ i. (c.before.before.shared-slice-known.given i).fits) (payload_of a.load) c.before.before.before.requires c.if1.false
 
 pub track-number-spec : {M : Type 1} → statement M
 track-number-spec =

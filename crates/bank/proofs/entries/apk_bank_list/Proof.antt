@@ -5,7 +5,7 @@ use borrow.Author.Rules.{rules}
 use Rattle.loader.specs.Entry.{from_bits}
 use Rattle.track.specs.List.{capacity}
 use Rattle.bank.specs.Bank.{most_tracks}
-use Rattle.bank.proofs.Answered.{said-within, said-unlisted, said-listed, range_bytes}
+use Rattle.bank.proofs.Answered.{said_within, said-unlisted, said-listed, range_bytes}
 use Rattle.bank.proofs.entries.apk_bank_list.Statement.{statement}
 use Rattle.bank.proofs.entries.apk_bank_list.Tie as tie
 
@@ -13,13 +13,13 @@ add-end : tie.Need-overflow-add-end
 add-end c =
     let a = c.before.before.before.before.before.before.before.args in
     let t = c.before.before.before.before.bank_track_lem in
-    omega (arith, said-within most_tracks a.block.now a.index t.result t.ensures _ c.before.before.range.given.1)
+    omega (arith, said_within most_tracks a.block.now a.index t.result t.ensures _ c.before.before.range.given.1)
 
 part-track-end : tie.Need-slice-bounds-track-end
 part-track-end c =
     let a = c.before.before.before.before.before.before.before.args in
     let t = c.before.before.before.before.bank_track_lem in
-    said-within most_tracks a.block.now a.index t.result t.ensures _ c.before.before.range.given.1
+    said_within most_tracks a.block.now a.index t.result t.ensures _ c.before.before.range.given.1
 
 returns : tie.Need-returns
 returns c =

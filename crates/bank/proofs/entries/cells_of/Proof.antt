@@ -6,7 +6,7 @@ use Prim.Native.Nat.{◌-◌, ◌*◌}
 use lib.ListN.{length}
 use Rattle.track.proofs.Held.{unmapped}
 use Rattle.bank.specs.Bank.{most_tracks}
-use Rattle.bank.proofs.Cells.{CellsPut, cells-first, cells-more, cells-all}
+use Rattle.bank.proofs.Cells.{CellsPut, cells_first, cells-more, cells-all}
 use Rattle.bank.proofs.entries.cells_of.Statement.{statement}
 use Rattle.bank.proofs.entries.cells_of.Tie as tie
 
@@ -17,7 +17,7 @@ abbrev decreases-loop : tie.decreases-loop
 decreases-loop bank cells₀ index₀ cells index = most_tracks - index
 
 loop-holds : tie.Need-loop-init invariant-loop decreases-loop
-loop-holds c = let size : length c.args.t1.tracks ≡ most_tracks = search (rules, unmapped) in (omega arith, cells-first _ _ _)
+loop-holds c = let size : length c.args.t1.tracks ≡ most_tracks = search (rules, unmapped) in (omega arith, cells_first _ _ _)
 
 loop-again : tie.Need-loop-preserved invariant-loop decreases-loop
 loop-again c =

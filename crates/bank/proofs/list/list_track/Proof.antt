@@ -8,7 +8,7 @@ use Rattle.base.specs.Rules.{rules_of}
 use Rattle.track.specs.List.{capacity}
 use Rattle.bank.specs.Bank.{most_tracks}
 use Rattle.bank.specs.Answers.{list_answer}
-use Rattle.bank.proofs.Answered.{said-within, said-unlisted, said-listed, range_bytes}
+use Rattle.bank.proofs.Answered.{said_within, said-unlisted, said-listed, range_bytes}
 use Rattle.bank.proofs.list.list_track.Statement.{statement}
 use Rattle.bank.proofs.list.list_track.Tie as tie
 
@@ -16,13 +16,13 @@ add-end : tie.Need-overflow-add-end
 add-end c =
     let a = c.before.before.before.before.before.before.args in
     let t = c.before.before.before.before.bank_track_lem in
-    omega (arith, said-within most_tracks a.block.now a.index t.result t.ensures _ c.before.before.range.given.1)
+    omega (arith, said_within most_tracks a.block.now a.index t.result t.ensures _ c.before.before.range.given.1)
 
 part-track-end : tie.Need-slice-bounds-track-end
 part-track-end c =
     let a = c.before.before.before.before.before.before.args in
     let t = c.before.before.before.before.bank_track_lem in
-    said-within most_tracks a.block.now a.index t.result t.ensures _ c.before.before.range.given.1
+    said_within most_tracks a.block.now a.index t.result t.ensures _ c.before.before.range.given.1
 
 returns : tie.Need-returns
 returns c =

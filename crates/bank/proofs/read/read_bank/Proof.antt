@@ -10,7 +10,7 @@ use Rattle.smf.specs.Place.{Span}
 use Rattle.bank.specs.Bank.{most_tracks, behind_entries}
 use Rattle.bank.specs.Read.{entry_at, ranges, no_gap}
 use Rattle.bank.specs.Answers.{BankAnswer, bank_answer}
-use Rattle.bank.proofs.Tested.{no-count, many, short, large, other-total, walked}
+use Rattle.bank.proofs.Tested.{no_count, many, short, large, other-total, walked}
 use Rattle.bank.proofs.read.read_bank.Statement.{statement}
 use Rattle.bank.proofs.read.read_bank.Tie as tie
 
@@ -19,7 +19,7 @@ abbrev asked : Answer (List Span) → BankAnswer
 asked = bank_answer most_tracks
 
 returns : tie.Need-returns
-returns c = let a = c.before.before.before.args in c.refused.ensures ∙ ap asked (sym (no-count most_tracks a.block.now (omega arith)))
+returns c = let a = c.before.before.before.args in c.refused.ensures ∙ ap asked (sym (no_count most_tracks a.block.now (omega arith)))
 
 returns-2 : tie.Need-returns-2
 returns-2 c =

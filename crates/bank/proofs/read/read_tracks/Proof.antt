@@ -4,7 +4,7 @@ use native.Mathlib.Omega.{arith}
 use borrow.Author.Rules.{rules}
 use Prim.Native.Nat.{◌-◌, ◌≤◌}
 use Rattle.bank.specs.Bank.{most_tracks}
-use Rattle.bank.proofs.Gaps.{Walked, walked-first, walked-length, walked-apart, walked_more, walked-short, walked_all}
+use Rattle.bank.proofs.Gaps.{Walked, walked_first, walked-length, walked-apart, walked_more, walked-short, walked_all}
 use Rattle.bank.proofs.read.read_tracks.Statement.{statement}
 use Rattle.bank.proofs.read.read_tracks.Tie as tie
 
@@ -15,7 +15,7 @@ abbrev decreases-loop : tie.decreases-loop
 decreases-loop block count tracks₀ place₀ index₀ tracks place index = count - index
 
 loop-holds : tie.Need-loop-init invariant-loop decreases-loop
-loop-holds c = let a = c.before.before.args in (c.before.before.requires.0, walked-first most_tracks a.count _ a.block.now _ c.no-tracks.ensures)
+loop-holds c = let a = c.before.before.args in (c.before.before.requires.0, walked_first most_tracks a.count _ a.block.now _ c.no-tracks.ensures)
 
 wide-at-requires : tie.Need-wide-at-requires invariant-loop decreases-loop
 wide-at-requires c κs = omega (arith, c.before.before.before.before.requires.1)

@@ -6,7 +6,7 @@ use Prim.Native.Nat.{◌-◌}
 use borrow.Author.Tests.{not-true, not-false}
 use lib.ListN.{length}
 use Rattle.bank.specs.Bank.{most_tracks}
-use Rattle.bank.proofs.Rest.{Looked, looked_first, looked-out, looked-more, looked-all}
+use Rattle.bank.proofs.Rest.{Looked, looked_first, looked-out, looked_more, looked-all}
 use Rattle.bank.proofs.writing.are_inside.Statement.{statement}
 use Rattle.bank.proofs.writing.are_inside.Tie as tie
 
@@ -27,7 +27,7 @@ returns c =
 loop-again : tie.Need-loop-preserved invariant-loop decreases-loop
 loop-again c =
     let a = c.before.before.before.before.before.before.args in
-    looked-more a.bytes.now a.t2 a.count c.before.before.before.before.loop.invariant _ c.before.before.before.loop-test.true (sym c.before.is_inside.ensures ∙ not-false _ c.if1.false)
+    looked_more a.bytes.now a.t2 a.count c.before.before.before.before.loop.invariant _ c.before.before.before.loop-test.true (sym c.before.is_inside.ensures ∙ not-false _ c.if1.false)
 
 returns-2 : tie.Need-returns-2 invariant-loop decreases-loop
 returns-2 c = let a = c.before.before.before.args in looked-all a.bytes.now a.t2 a.count c.before.loop.invariant c.loop-test.false

@@ -6,7 +6,7 @@ use Prim.Native.Nat.{◌-◌, ◌≤◌}
 use lib.ListN.{length}
 use Rattle.smf.proofs.Write.{length_over}
 use Rattle.bank.specs.Bank.{most_tracks, four_bytes, behind_entries}
-use Rattle.bank.proofs.Rest.{rest-place, rest-bound}
+use Rattle.bank.proofs.Rest.{rest_place, rest-bound}
 use Rattle.bank.proofs.Putting.{EntriesPut, entries-first, entries-more, entries-all}
 use Rattle.bank.proofs.writing.put_entries.Statement.{statement}
 use Rattle.bank.proofs.writing.put_entries.Tie as tie
@@ -29,7 +29,7 @@ put-wide-requires c κs =
     let a = c.before.before.before.before.before.before.args in
     let p = c.before.before.before.before.before.before.requires in
     let e = c.before.before.before.loop.invariant.1 in
-    (omega (arith, rest-place a.bytes.now a.t2 a.count e.rest, p.1.1.0), omega (arith, e.kept, p.1.1.1))
+    (omega (arith, rest_place a.bytes.now a.t2 a.count e.rest, p.1.1.0), omega (arith, e.kept, p.1.1.1))
 
 put-wide-requires-2 : tie.Need-put-wide-requires-2 invariant-loop decreases-loop
 put-wide-requires-2 c κs =

@@ -14,12 +14,12 @@ use Rattle.bank.specs.Write.{all_inside, tracks_of}
 use Rattle.bank.specs.Answers.{spans_of, bank_wrote}
 use Rattle.bank.proofs.Rest.{counted-length}
 use Rattle.bank.proofs.Measured.{measured-large, measured-small}
-use Rattle.bank.proofs.Written.{write-many, write-outside, write-above, write-full, write-put}
+use Rattle.bank.proofs.Written.{write_many, write-outside, write-above, write_full, write_put}
 use Rattle.bank.proofs.writing.write_bank.Statement.{statement}
 use Rattle.bank.proofs.writing.write_bank.Tie as tie
 
 returns : tie.Need-returns
-returns c = let a = c.before.before.before.args in write-many most_tracks a.bytes.now (spans_of a.ranges) a.count a.out.now (omega arith)
+returns c = let a = c.before.before.before.args in write_many most_tracks a.bytes.now (spans_of a.ranges) a.count a.out.now (omega arith)
 
 returns-2 : tie.Need-returns-2
 returns-2 c =
@@ -49,7 +49,7 @@ returns-3 : tie.Need-returns-3
 returns-3 c =
     let s = c.before.before in
     let a = s.before.before.before.before.before.before.before.before.args in
-    write-full most_tracks a.bytes.now (spans_of a.ranges) a.count a.out.now (omega arith) (all s) (sized s).1 (omega (arith, (sized s).0))
+    write_full most_tracks a.bytes.now (spans_of a.ranges) a.count a.out.now (omega arith) (all s) (sized s).1 (omega (arith, (sized s).0))
 
 put-wide-requires : tie.Need-put-wide-requires
 put-wide-requires c κs = (omega arith, omega (arith, headed c.before.before.before))
@@ -75,7 +75,7 @@ returns-5 c =
     let s = c.before.before.before.before.before.before.before.before.before.before.before.before.before.before.before.before.before.before in
     let a = s.before.before.before.before.before.before.before.before.args in
     let long : length a.ranges ≡ most_tracks = search rules in
-    write-put most_tracks a.bytes.now (spans_of a.ranges) a.count a.out.now (omega arith) (all s) (sized s).1 (omega (arith, length-map a.ranges span_of)) (omega (arith, (sized s).0)) _ (sized s).0
+    write_put most_tracks a.bytes.now (spans_of a.ranges) a.count a.out.now (omega arith) (all s) (sized s).1 (omega (arith, length-map a.ranges span_of)) (omega (arith, (sized s).0)) _ (sized s).0
     _ _ _ _ c.before.before.before.before.before.before.before.before.before.before.before.before.before.before.put-wide.ensures c.before.before.before.before.before.before.before.before.before.before.put-wide2.ensures c.before.before.before.before.before.before.put_entries.ensures c.before.before.put-tracks.ensures
 
 pub write-bank-spec : {M : Type 1} → statement M

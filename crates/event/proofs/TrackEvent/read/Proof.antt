@@ -1,7 +1,7 @@
 -- `TrackEvent::read` meets its contract.
 use mathlib.Core.Path.{◌≡◌, ◌∙◌, sym, ap}
 use native.Mathlib.Omega.{arith}
-use Rattle.smf.proofs.Reading.{event-invalid, event-refused, event-body}
+use Rattle.smf.proofs.Reading.{event_invalid, event-refused, event-body}
 use Rattle.number.specs.Varlen.{number_read_of}
 use Rattle.base.specs.Rules.{rules_of}
 use borrow.Author.Rules.{rules}
@@ -32,7 +32,7 @@ returns-3 : tie.Need-returns-3
 returns-3 c =
     let a = c.before.before.before.before.args in
     c.refused2.ensures
-    ∙ event-invalid (rules_of a.rules) a.running.status a.raw.now a.at (sym c.before.before.is_valid.ensures ∙ c.before.if1.false)
+    ∙ event_invalid (rules_of a.rules) a.running.status a.raw.now a.at (sym c.before.before.is_valid.ensures ∙ c.before.if1.false)
 
 pub read_spec : {M : Type 1} → statement M
 read_spec =

@@ -4,7 +4,7 @@ use native.Mathlib.Omega.{arith}
 use Prim.Native.Nat.{◌+◌, ◌<◌}
 use lib.ListN.{length}
 use Rattle.smf.specs.Wire.{data_length}
-use Rattle.smf.proofs.Reading.{channel_length, data_some, data-short, data-top, data-one, data-more, data-second-top, data-two}
+use Rattle.smf.proofs.Reading.{channel_length, data_some, data_short, data_top, data_one, data-more, data-second-top, data-two}
 use Rattle.base.specs.Rules.{rules_of}
 use Rattle.event.specs.Begun.{delta_of}
 use borrow.Author.Rules.{rules}
@@ -26,7 +26,7 @@ returns : tie.Need-returns
 returns c =
     let a = c.before.before.before.before.before.args in
     c.refused.ensures
-    ∙ data-short (rules_of a.rules) a.raw.now a.begun.start a.at a.status (delta_of a.begun) c.before.before.before.before.before.requires.0 (omega (arith, len c.before.before.before, c.before.before.bytes-from.ensures, c.before.if1.true))
+    ∙ data_short (rules_of a.rules) a.raw.now a.begun.start a.at a.status (delta_of a.begun) c.before.before.before.before.before.requires.0 (omega (arith, len c.before.before.before, c.before.before.bytes-from.ensures, c.before.if1.true))
 
 shared-slice-read-first : tie.Need-shared-slice-read-first
 shared-slice-read-first c = omega (arith, len c.before.before.before, c.before.before.bytes-from.ensures, data_some c.before.before.before.before.before.args.status)
@@ -35,14 +35,14 @@ returns-2 : tie.Need-returns-2
 returns-2 c =
     let a = c.before.before.before.before.before.before.before.args in
     c.refused2.ensures
-    ∙ data-top (rules_of a.rules) a.raw.now a.begun.start a.at a.status (delta_of a.begun) c.before.before.before.before.before.before.before.requires.0 (omega (arith, len c.before.before.before.before.before, c.before.before.before.before.bytes-from.ensures, c.before.before.before.if1.false)) c.before.if2.true
+    ∙ data_top (rules_of a.rules) a.raw.now a.begun.start a.at a.status (delta_of a.begun) c.before.before.before.before.before.before.before.requires.0 (omega (arith, len c.before.before.before.before.before, c.before.before.before.before.bytes-from.ensures, c.before.before.before.if1.false)) c.before.if2.true
 
 returns-3 : tie.Need-returns-3
 returns-3 c =
     let p = c.before.before.before.before.before in
     let a = p.before.before.before.before.args in
     c.event.ensures
-    ∙ rw c.before.read.ensures (data-one (rules_of a.rules) a.raw.now a.begun.start a.at a.status (delta_of a.begun) p.before.before.before.before.requires.0 0 (omega (arith, len p.before.before, p.before.bytes-from.ensures, p.if1.false)) (sym (len p.before.before) ∙ c.before.before.if3.true) c.before.before.before.if2.false)
+    ∙ rw c.before.read.ensures (data_one (rules_of a.rules) a.raw.now a.begun.start a.at a.status (delta_of a.begun) p.before.before.before.before.requires.0 0 (omega (arith, len p.before.before, p.before.bytes-from.ensures, p.if1.false)) (sym (len p.before.before) ∙ c.before.before.if3.true) c.before.before.before.if2.false)
 
 add-second : tie.Need-overflow-add-second
 add-second c = omega (arith, more c)

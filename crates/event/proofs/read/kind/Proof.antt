@@ -6,7 +6,7 @@ use native.Mathlib.Omega.{arith}
 use lib.ListN.{drop, get_or}
 use Rattle.smf.specs.Event.{placed, name_raw}
 use Rattle.smf.proofs.Place.{site_next}
-use Rattle.smf.proofs.Reading.{body-missing, body-status, body-none, body-running, running_channel, status-channel}
+use Rattle.smf.proofs.Reading.{body_missing, body_status, body_none, body_running, running_channel, status_channel}
 use Rattle.base.specs.Rules.{rules_of}
 use Rattle.event.specs.Begun.{delta_of}
 use borrow.Author.Rules.{rules}
@@ -17,7 +17,7 @@ returns : tie.Need-returns
 unfolding placed name_raw
 returns c =
     let a = c.before.before.before.args in
-    c.refused.ensures ∙ rw (body-missing (rules_of a.rules) a.running.status (delta_of a.begun) a.raw.now a.at c.before.if1.true)
+    c.refused.ensures ∙ rw (body_missing (rules_of a.rules) a.running.status (delta_of a.begun) a.raw.now a.at c.before.if1.true)
 
 status-kind-requires : tie.Need-status-kind-requires
 status-kind-requires c κs =
@@ -28,14 +28,14 @@ returns-2 : tie.Need-returns-2
 returns-2 c =
     let a = c.before.before.before.before.before.args in
     c.status-kind.ensures
-    ∙ rw (body-status (rules_of a.rules) a.running.status (delta_of a.begun) a.raw.now a.at c.before.before.before.if1.false (omega arith))
+    ∙ rw (body_status (rules_of a.rules) a.running.status (delta_of a.begun) a.raw.now a.at c.before.before.before.if1.false (omega arith))
 
 returns-3 : tie.Need-returns-3
 unfolding placed name_raw
 returns-3 c =
     c.refused2.ensures
     ∙ ⊎_elim (λ w. absurd (omega arith))
-    (λ w. rw (body-none (rules_of c.before.before.before.before.before.before.before.args.rules) c.before.before.before.before.before.before.before.args.running.status (delta_of c.before.before.before.before.before.before.before.args.begun) c.before.before.before.before.before.before.before.args.raw.now c.before.before.before.before.before.before.before.args.at c.before.before.before.before.before.if1.false w.0.left (sym w.1 ∙ c.before.if4.true)))
+    (λ w. rw (body_none (rules_of c.before.before.before.before.before.before.before.args.rules) c.before.before.before.before.before.before.before.args.running.status (delta_of c.before.before.before.before.before.before.before.args.begun) c.before.before.before.before.before.before.before.args.raw.now c.before.before.before.before.before.before.before.args.at c.before.before.before.before.before.if1.false w.0.left (sym w.1 ∙ c.before.if4.true)))
     c.before.before.if3.branch
 
 channel-requires : tie.Need-channel-requires
@@ -50,8 +50,8 @@ returns-4 : tie.Need-returns-4
 returns-4 c =
     c.channel.ensures
     ∙ ⊎_elim
-    (λ w. rw (body-status (rules_of c.before.before.before.before.before.before.before.args.rules) c.before.before.before.before.before.before.before.args.running.status (delta_of c.before.before.before.before.before.before.before.args.begun) c.before.before.before.before.before.before.before.args.raw.now c.before.before.before.before.before.before.before.args.at c.before.before.before.before.before.if1.false w.0.taken, status-channel (rules_of c.before.before.before.before.before.before.before.args.rules) c.before.before.before.before.before.before.before.args.running.status (delta_of c.before.before.before.before.before.before.before.args.begun) (get_or c.before.before.before.before.before.before.before.args.raw.now c.before.before.before.before.before.before.before.args.at 0) (drop (c.before.before.before.before.before.before.before.args.at + 1) c.before.before.before.before.before.before.before.args.raw.now) c.before.before.before.if2.false, w.1, w.2))
-    (λ w. rw (body-running (rules_of c.before.before.before.before.before.before.before.args.rules) c.before.before.before.before.before.before.before.args.running.status (delta_of c.before.before.before.before.before.before.before.args.begun) c.before.before.before.before.before.before.before.args.raw.now c.before.before.before.before.before.before.before.args.at c.before.before.before.before.before.if1.false w.0.left (λ z. c.before.if4.false (w.1 ∙ z)), w.1, w.2))
+    (λ w. rw (body_status (rules_of c.before.before.before.before.before.before.before.args.rules) c.before.before.before.before.before.before.before.args.running.status (delta_of c.before.before.before.before.before.before.before.args.begun) c.before.before.before.before.before.before.before.args.raw.now c.before.before.before.before.before.before.before.args.at c.before.before.before.before.before.if1.false w.0.taken, status_channel (rules_of c.before.before.before.before.before.before.before.args.rules) c.before.before.before.before.before.before.before.args.running.status (delta_of c.before.before.before.before.before.before.before.args.begun) (get_or c.before.before.before.before.before.before.before.args.raw.now c.before.before.before.before.before.before.before.args.at 0) (drop (c.before.before.before.before.before.before.before.args.at + 1) c.before.before.before.before.before.before.before.args.raw.now) c.before.before.before.if2.false, w.1, w.2))
+    (λ w. rw (body_running (rules_of c.before.before.before.before.before.before.before.args.rules) c.before.before.before.before.before.before.before.args.running.status (delta_of c.before.before.before.before.before.before.before.args.begun) c.before.before.before.before.before.before.before.args.raw.now c.before.before.before.before.before.before.before.args.at c.before.before.before.before.before.if1.false w.0.left (λ z. c.before.if4.false (w.1 ∙ z)), w.1, w.2))
     c.before.before.if3.branch
 
 pub kind-spec : {M : Type 1} → statement M

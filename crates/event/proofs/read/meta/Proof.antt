@@ -2,7 +2,7 @@
 use mathlib.Core.Path.{◌≡◌, ◌∙◌, sym, ap}
 use native.Mathlib.Omega.{arith}
 use Rattle.smf.proofs.Answer.{said_of, said_refused}
-use Rattle.smf.proofs.Reading.{Answers, meta-answers}
+use Rattle.smf.proofs.Reading.{Answers, meta_answers}
 use Rattle.meta.specs.Meta.{meta_read}
 use Rattle.meta.specs.declared.ReadMeta.TheVariants as read
 use Rattle.base.specs.Rules.{rules_of}
@@ -18,7 +18,7 @@ found : (c : tie.After-known-told2) →
 found c =
     let s = c.before.before.before.before.before in
     let a = s.args in
-    said_of (Answers (rules_of a.rules) a.raw.now a.begun.start a.at (delta_of a.begun) s.requires.0) (meta-answers (rules_of a.rules) a.raw.now a.begun.start a.at (delta_of a.begun) s.requires.0) (sym c.before.before.before.read.ensures ∙ ap meta_read c.before.m.given.1)
+    said_of (Answers (rules_of a.rules) a.raw.now a.begun.start a.at (delta_of a.begun) s.requires.0) (meta_answers (rules_of a.rules) a.raw.now a.begun.start a.at (delta_of a.begun) s.requires.0) (sym c.before.before.before.read.ensures ∙ ap meta_read c.before.m.given.1)
 
 add-padding : tie.Need-overflow-add-padding
 add-padding c =
@@ -33,7 +33,7 @@ returns c =
     let s = c.before.before.before.before.before.before in
     let a = s.args in
     c.refused.ensures
-    ∙ said_refused (Answers (rules_of a.rules) a.raw.now a.begun.start a.at (delta_of a.begun) s.requires.0) (meta-answers (rules_of a.rules) a.raw.now a.begun.start a.at (delta_of a.begun) s.requires.0) (sym c.before.before.before.before.read.ensures ∙ ap meta_read c.before.before.refusal.given.1)
+    ∙ said_refused (Answers (rules_of a.rules) a.raw.now a.begun.start a.at (delta_of a.begun) s.requires.0) (meta_answers (rules_of a.rules) a.raw.now a.begun.start a.at (delta_of a.begun) s.requires.0) (sym c.before.before.before.before.read.ensures ∙ ap meta_read c.before.before.refusal.given.1)
 
 returns-2 : tie.Need-returns-2
 returns-2 c = c.event.ensures ∙ (found c.before.before.before).0

@@ -4,7 +4,7 @@ use native.Mathlib.Omega.{arith}
 use mathlib.Core.Logic.{inl, inr}
 use lib.ListN.{drop}
 use Rattle.smf.specs.Event.{placed, name_raw}
-use Rattle.smf.proofs.Reading.{status-meta, status-payload, status-common, status-realtime}
+use Rattle.smf.proofs.Reading.{status_meta, status_payload, status-common, status-realtime}
 use Rattle.base.specs.Rules.{rules_of}
 use Rattle.event.specs.Begun.{delta_of}
 use borrow.Author.Rules.{rules}
@@ -22,13 +22,13 @@ returns-2 : tie.Need-returns-2
 returns-2 c =
     let a = c.before.before.before.args in
     c.meta.ensures
-    ∙ rw (status-meta (rules_of a.rules) a.running.status (delta_of a.begun) a.status (drop a.at a.raw.now) c.before.match.keys1)
+    ∙ rw (status_meta (rules_of a.rules) a.running.status (delta_of a.begun) a.status (drop a.at a.raw.now) c.before.match.keys1)
 
 returns-3 : tie.Need-returns-3
 returns-3 c =
     let a = c.before.before.before.args in
     c.payload.ensures
-    ∙ rw (status-payload (rules_of a.rules) a.running.status (delta_of a.begun) a.status (drop a.at a.raw.now) c.before.match.keys2)
+    ∙ rw (status_payload (rules_of a.rules) a.running.status (delta_of a.begun) a.status (drop a.at a.raw.now) c.before.match.keys2)
 
 returns-4 : tie.Need-returns-4
 unfolding placed name_raw

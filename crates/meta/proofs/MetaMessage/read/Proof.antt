@@ -5,7 +5,7 @@ use native.Mathlib.Omega.{arith}
 use Rattle.smf.specs.Answer.{gives}
 use Rattle.smf.specs.Place.{payload_at}
 use Rattle.smf.proofs.Answer.{said_of}
-use Rattle.smf.proofs.MetaAt.{PayloadReached, payload_reached, meta-missing, meta-refused, meta_called}
+use Rattle.smf.proofs.MetaAt.{PayloadReached, payload_reached, meta_missing, meta_refused, meta_called}
 use Rattle.base.specs.Rules.{rules_of}
 use Rattle.number.specs.Payload.{payload_of, slice_read}
 use borrow.Author.Rules.{rules}
@@ -13,7 +13,7 @@ use Rattle.meta.proofs.MetaMessage.read.Statement.{statement}
 use Rattle.meta.proofs.MetaMessage.read.Tie as tie
 
 returns : tie.Need-returns
-returns c = sym (meta-missing (rules_of c.before.before.args.rules) c.before.before.args.raw.now c.before.before.args.at c.if1.true)
+returns c = sym (meta_missing (rules_of c.before.before.args.rules) c.before.before.args.raw.now c.before.before.args.at c.if1.true)
 
 -- what the reader of the payload found
 sliced : (c : tie.After-known-told2)
@@ -31,7 +31,7 @@ returns-2 : tie.Need-returns-2
 returns-2 c =
     let r = c.before.before.before in
     let a = r.before.before.before.before.args in
-    sym (meta-refused (rules_of a.rules) a.raw.now a.at r.before.before.if1.false (sym r.read_varlen_slice.ensures ∙ ap slice_read c.before.refusal.given.1))
+    sym (meta_refused (rules_of a.rules) a.raw.now a.at r.before.before.if1.false (sym r.read_varlen_slice.ensures ∙ ap slice_read c.before.refusal.given.1))
 
 returns-3 : tie.Need-returns-3
 returns-3 c =

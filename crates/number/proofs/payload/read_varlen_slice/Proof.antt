@@ -1,6 +1,6 @@
 -- `read_varlen_slice` meets its contract, by what `read_u7` answered.
 use Rattle.base.specs.Rules.{rules_of}
-use Rattle.number.proofs.PayloadReads.{slice-refused, slice-whole, slice-cut-strict, slice-cut-lenient}
+use Rattle.number.proofs.PayloadReads.{slice_refused, slice-whole, slice-cut-strict, slice-cut-lenient}
 use borrow.Author.Rules.{rules}
 use Rattle.number.proofs.payload.read_varlen_slice.Statement.{statement}
 use Rattle.number.proofs.payload.read_varlen_slice.Tie as tie
@@ -18,7 +18,7 @@ returns-2 c =
 returns-3 : tie.Need-returns-3
 returns-3 c =
     let a = c.before.before.before.before.before.args in
-    slice-refused (rules_of a.rules) a.raw.now a.at c.before.before.before.read_u7.ensures c.before.refusal.given.1
+    slice_refused (rules_of a.rules) a.raw.now a.at c.before.before.before.read_u7.ensures c.before.refusal.given.1
 
 returns-4 : tie.Need-returns-4
 returns-4 c =

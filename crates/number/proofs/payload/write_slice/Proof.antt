@@ -4,14 +4,14 @@ use native.Mathlib.Omega.{arith}
 use borrow.Author.Rules.{rules}
 use borrow.Author.Tests.{not-true, not-false}
 use Rattle.smf.specs.Place.{bytes_of}
-use Rattle.smf.proofs.Write.{inside_within, slice-outside, slice-full, slice_fits}
+use Rattle.smf.proofs.Write.{inside_within, slice_outside, slice-full, slice_fits}
 use Rattle.number.proofs.payload.write_slice.Statement.{statement}
 use Rattle.number.proofs.payload.write_slice.Tie as tie
 
 returns : tie.Need-returns
 returns c =
     let a = c.before.before.before.before.args in
-    slice-outside a.bytes.now _ a.out.now a.at (sym c.before.is_inside.ensures ∙ not-true _ c.if1.true)
+    slice_outside a.bytes.now _ a.out.now a.at (sym c.before.is_inside.ensures ∙ not-true _ c.if1.true)
 
 returns-2 : tie.Need-returns-2
 returns-2 c =

@@ -12,7 +12,7 @@ use Rattle.smf.specs.Number.{encode_number}
 use Rattle.smf.specs.Payload.{encode_payload}
 use Rattle.smf.specs.Write.{left, write, payload_bytes}
 use Rattle.smf.proofs.Number.{encode_most}
-use Rattle.smf.proofs.Write.{put-fits, put_full, inside_within, inside_beyond, part-outside, part-long, part_bytes, number_put, payload-size, payload-put}
+use Rattle.smf.proofs.Write.{put_fits, put_full, inside_within, inside_beyond, part_outside, part_long, part_bytes, number_put, payload_size, payload_put}
 use Rattle.number.proofs.payload.write_varlen_slice.Statement.{statement}
 use Rattle.number.proofs.payload.write_varlen_slice.Tie as tie
 
@@ -33,7 +33,7 @@ long c =
 
 size : (c : tie.After-varlen-length)
     → length (encode_payload (part c)) ≡ length (encode_number c.before.before.before.before.before.before.args.slice.length) + c.before.before.before.before.before.before.args.slice.length
-size c = payload-size (part c) c.before.before.before.before.before.before.args.out.now 0 _ (long c)
+size c = payload_size (part c) c.before.before.before.before.before.before.args.out.now 0 _ (long c)
 
 -- where it has no room
 full : (c : tie.After-varlen-length)
@@ -51,12 +51,12 @@ full c h =
 returns : tie.Need-returns
 returns c =
     let a = c.before.before.before.before.args in
-    rw (part-outside a.bytes.now a.slice.start a.slice.length (inside_beyond a.bytes.now _ (sym c.before.is_inside.ensures ∙ not-true _ c.if1.true)))
+    rw (part_outside a.bytes.now a.slice.start a.slice.length (inside_beyond a.bytes.now _ (sym c.before.is_inside.ensures ∙ not-true _ c.if1.true)))
 
 returns-2 : tie.Need-returns-2
 returns-2 c =
     let a = c.before.before.before.before.before.args in
-    rw (part-long a.bytes.now a.slice.start a.slice.length (inside_within a.bytes.now _ (sym c.before.before.is_inside.ensures ∙ not-false _ c.before.if1.false)) (omega arith))
+    rw (part_long a.bytes.now a.slice.start a.slice.length (inside_within a.bytes.now _ (sym c.before.before.is_inside.ensures ∙ not-false _ c.before.if1.false)) (omega arith))
 
 add-size : tie.Need-overflow-add-size
 add-size c = omega (arith, c.varlen_length.ensures, encode_most c.before.before.before.before.before.before.args.slice.length)
@@ -78,8 +78,8 @@ returns-5 c =
     let fit : a.at + length (encode_payload (part d)) ≤ length a.out.now = omega (arith, size d, d.varlen_length.ensures) in
     let l = number_put a.slice.length a.out.now a.at _ (omega arith) (omega (arith, d.varlen_length.ensures)) c.before.before.before.before.before.before.write_varlen.ensures in
     let n : d.varlen_length.result + a.slice.length ≡ length (encode_payload (part d)) = omega (arith, size d, d.varlen_length.ensures) in
-    let m = payload-put (part d) a.out.now a.at a.slice.length (long d) _ _ (a.at + (d.varlen_length.result + a.slice.length) - a.slice.length) (omega arith) l c.before.before.copy-part.ensures (omega (arith, d.varlen_length.ensures)) in
-    rw (part_bytes a.bytes.now a.slice.start a.slice.length (within d) (omega arith), n, m) (put-fits (encode_payload (part d)) a.out.now a.at fit)
+    let m = payload_put (part d) a.out.now a.at a.slice.length (long d) _ _ (a.at + (d.varlen_length.result + a.slice.length) - a.slice.length) (omega arith) l c.before.before.copy-part.ensures (omega (arith, d.varlen_length.ensures)) in
+    rw (part_bytes a.bytes.now a.slice.start a.slice.length (within d) (omega arith), n, m) (put_fits (encode_payload (part d)) a.out.now a.at fit)
 
 pub write-varlen-slice-spec : {M : Type 1} → statement M
 write-varlen-slice-spec =

@@ -6,8 +6,8 @@ use borrow.Author.Rules.{rules}
 use lib.ListN.{length, length-set}
 use Rattle.smf.specs.Number.{encode_number}
 use Rattle.smf.proofs.Number.{encode_some}
-use Rattle.smf.proofs.Write.{put-fits, put_full, number_bytes_lem, number_bytes_wide}
-use Rattle.number.proofs.NumberWrites.{Putting, put-length, put-more, put_step, put-begun, put_ended}
+use Rattle.smf.proofs.Write.{put_fits, put_full, number_bytes_lem, number_bytes_wide}
+use Rattle.number.proofs.NumberWrites.{Putting, put_length, put_more, put_step, put_begun, put_ended}
 use Rattle.number.proofs.u28.write_varlen.Statement.{statement}
 use Rattle.number.proofs.u28.write_varlen.Tie as tie
 
@@ -43,19 +43,19 @@ loop-holds : tie.Need-loop-init invariant-loop decreases-loop
 loop-holds c =
     let a = c.before.before.before.before.before.args in
     rw c.before.before.varlen_length.ensures
-    (put-begun a.out.now a.self.0 a.at (omega (arith, c.before.before.varlen_length.ensures)) (fits c.before.before))
+    (put_begun a.out.now a.self.0 a.at (omega (arith, c.before.before.varlen_length.ensures)) (fits c.before.before))
 
 sub-place-2 : tie.Need-overflow-sub-place-2 invariant-loop decreases-loop
-sub-place-2 c = omega (arith, put-more c.before.loop.invariant c.loop-test.true)
+sub-place-2 c = omega (arith, put_more c.before.loop.invariant c.loop-test.true)
 
 slice-write-out-2 : tie.Need-slice-write-out-2 invariant-loop decreases-loop
-slice-write-out-2 c = omega (arith, put-more c.before.loop.invariant c.loop-test.true, put-length c.before.loop.invariant)
+slice-write-out-2 c = omega (arith, put_more c.before.loop.invariant c.loop-test.true, put_length c.before.loop.invariant)
 
 loop-again : tie.Need-loop-preserved invariant-loop decreases-loop
 loop-again c = put_step c.before.loop.invariant c.loop-test.true
 
 same_length : tie.Need-same-length invariant-loop decreases-loop
-same_length c = put-length c.before.loop.invariant ∙ simp length-set
+same_length c = put_length c.before.loop.invariant ∙ simp length-set
 
 returns-4 : tie.Need-returns-4 invariant-loop decreases-loop
 returns-4 c =
@@ -63,7 +63,7 @@ returns-4 c =
     let a = d.before.before.before.args in
     let room : a.at + length (encode_number a.self.0) ≤ length a.out.now = omega (arith, d.varlen_length.ensures) in
     let w = rw d.varlen_length.ensures at c.before.loop.invariant in
-    rw (number_bytes_lem _ (fits d), d.varlen_length.ensures, put_ended a.out.now a.self.0 a.at room w c.loop-test.false) (put-fits _ _ _ room)
+    rw (number_bytes_lem _ (fits d), d.varlen_length.ensures, put_ended a.out.now a.self.0 a.at room w c.loop-test.false) (put_fits _ _ _ room)
 
 pub write-varlen-spec : {M : Type 1} → statement M
 write-varlen-spec =

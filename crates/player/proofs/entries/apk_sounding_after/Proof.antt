@@ -6,12 +6,12 @@ use Rattle.track.specs.List.{capacity, record_of, held_of}
 use Rattle.player.specs.Table.{Table}
 use Rattle.player.specs.Widths.{accepted}
 use Rattle.player.specs.Answers.{table_beside}
-use Rattle.player.proofs.Entered.{rows-many, rows_none, rows_above, rows-entered}
+use Rattle.player.proofs.Entered.{rows_many, rows_none, rows_above, rows-entered}
 use Rattle.player.proofs.entries.apk_sounding_after.Statement.{statement}
 use Rattle.player.proofs.entries.apk_sounding_after.Tie as tie
 
 returns : tie.Need-returns
-returns c = rw c.number.ensures (rows-many _ _ _ _ c.before.if1.true)
+returns c = rw c.number.ensures (rows_many _ _ _ _ c.before.if1.true)
 
 returns-2 : tie.Need-returns-2
 returns-2 c = let l = c.before in rows_none _ _ _ _ l.before.before.if1.false _ _ l.list-in.ensures c.if2.true

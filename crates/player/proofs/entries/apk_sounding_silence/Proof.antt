@@ -8,7 +8,7 @@ use Rattle.player.specs.Table.{Table}
 use Rattle.player.specs.Sounding.{silence}
 use Rattle.player.specs.Answers.{with_number, list_beside}
 use Rattle.player.specs.Entries.{table_in}
-use Rattle.player.proofs.Entered.{silence-refused, silence-few, silence-no-room, silence-put}
+use Rattle.player.proofs.Entered.{silence_refused, silence-few, silence-no-room, silence-put}
 use Rattle.player.proofs.entries.apk_sounding_silence.Statement.{statement}
 use Rattle.player.proofs.entries.apk_sounding_silence.Tie as tie
 
@@ -23,7 +23,7 @@ few : (c : tie.Else1) → c.before.silence.result.count ≤ capacity
 few c = silence-few _ _ _ _ _ _ (said c.before) c.if1.false
 
 returns : tie.Need-returns
-returns c = silence-refused _ _ _ _ _ _ (said c.before) c.if1.true _
+returns c = silence_refused _ _ _ _ _ _ (said c.before) c.if1.true _
 
 mul-if2 : tie.Need-overflow-mul-if2
 mul-if2 c = record { fits = omega (arith, few c) }

@@ -4,7 +4,7 @@ use mathlib.Core.Path.{refl}
 use borrow.Author.Rules.{rules}
 use Rattle.player.specs.Table.{places, velocity_at}
 use Rattle.player.specs.Entries.{bytes_in}
-use Rattle.player.proofs.Stored.{Stored, stored-first, stored_more, stored-all}
+use Rattle.player.proofs.Stored.{Stored, stored_first, stored_more, stored-all}
 use Rattle.player.proofs.entries.bytes_in.Statement.{statement}
 use Rattle.player.proofs.entries.bytes_in.Tie as tie
 
@@ -27,7 +27,7 @@ bytes-in-spec =
     (tie.spec
     invariant-loop
     decreases-loop
-    (λ c. stored-first _ _)
+    (λ c. stored_first _ _)
     (λ c. search rules)
     (λ c. search rules)
     (λ c. search rules)

@@ -4,8 +4,8 @@ use native.Mathlib.Omega.{arith}
 use borrow.Author.Rules.{rules}
 use Rattle.track.specs.List.{capacity}
 use Rattle.rows.specs.RowAnswer.{row_answer}
-use Rattle.rows.proofs.IsRow.{is-event, is_none}
-use Rattle.player.proofs.Taking.{Taking, taking-first, taking-none, taking-all, taking-more}
+use Rattle.rows.proofs.IsRow.{is_event, is_none}
+use Rattle.player.proofs.Taking.{Taking, taking_first, taking-none, taking-all, taking-more}
 use Rattle.player.proofs.entries.list_in.Statement.{statement}
 use Rattle.player.proofs.entries.list_in.Tie as tie
 
@@ -16,7 +16,7 @@ abbrev decreases-loop : tie.decreases-loop
 decreases-loop rows count answer₀ list₀ at₀ left₀ answer list at left = left
 
 loop-holds : tie.Need-loop-init invariant-loop decreases-loop
-loop-holds c = taking-first _ _ _ _ _ c.new.ensures
+loop-holds c = taking_first _ _ _ _ _ c.new.ensures
 
 returns : tie.Need-returns invariant-loop decreases-loop
 returns c =
@@ -44,7 +44,7 @@ loop-again : tie.Need-loop-preserved invariant-loop decreases-loop
 loop-again c =
     let r = c.before.before.before.before in
     let l = r.before.before in
-    let one = is-event _ (sym r.row-event-at.ensures ∙ ap row_answer c.before.before.event.given.1) in
+    let one = is_event _ (sym r.row-event-at.ensures ∙ ap row_answer c.before.before.event.given.1) in
     taking-more _ _ _ l.loop.invariant r.before.loop-test.true l.before.before.before.requires one.0 c.recorded.result (one.1 ∙ sym c.recorded.ensures)
 
 returns-2 : tie.Need-returns-2 invariant-loop decreases-loop

@@ -5,7 +5,7 @@ use native.Mathlib.Omega.{arith}
 use borrow.Author.Rules.{rules}
 use lib.ListN.{length}
 use Rattle.rows.specs.Rows.{width}
-use Rattle.rows.proofs.LaidRow.{Laid, laid-first, laid-length, laid_more, laid-all}
+use Rattle.rows.proofs.LaidRow.{Laid, laid_first, laid-length, laid_more, laid-all}
 use Rattle.player.proofs.entries.put_row.Statement.{statement}
 use Rattle.player.proofs.entries.put_row.Tie as tie
 
@@ -34,7 +34,7 @@ put-row-spec =
     (tie.spec
     invariant-loop
     decreases-loop
-    (λ c. laid-first _ _ _)
+    (λ c. laid_first _ _ _)
     (λ c. search rules)
     (λ c. search rules)
     (λ c. search rules)

@@ -4,7 +4,7 @@ use mathlib.Core.Path.{subst, sym}
 use borrow.Author.Rules.{rules}
 use Rattle.player.specs.Table.{places, Table, fresh}
 use Rattle.player.proofs.Tables.{Shaped, shaped_of}
-use Rattle.player.proofs.TablesIn.{Filled, filled-first, filled_more, filled-all}
+use Rattle.player.proofs.TablesIn.{Filled, filled_first, filled_more, filled-all}
 use Rattle.player.proofs.entries.table_in.Statement.{statement}
 use Rattle.player.proofs.entries.table_in.Tie as tie
 
@@ -16,7 +16,7 @@ decreases-loop bytes table₀ place₀ table place = places - place
 
 loop-holds : tie.Need-loop-init invariant-loop decreases-loop
 unfolding fresh
-loop-holds c = filled-first _ (subst Shaped (sym c.fresh.ensures) (shaped_of (λ channel key. 0)))
+loop-holds c = filled_first _ (subst Shaped (sym c.fresh.ensures) (shaped_of (λ channel key. 0)))
 
 loop-again : tie.Need-loop-preserved invariant-loop decreases-loop
 loop-again c = filled_more _ c.before.loop.invariant c.loop-test.true

@@ -16,7 +16,7 @@ use Rattle.player.specs.Notes.{note, kind_note}
 use Rattle.player.specs.Widths.{event_within}
 use Rattle.player.specs.Answers.{note_said}
 use Rattle.player.proofs.Arrays.{shaped_array}
-use Rattle.player.proofs.Steps.{Inside, channel_inside, key_inside, Played, played-first, played-note, within_inside, kind_of_within, noted}
+use Rattle.player.proofs.Steps.{Inside, channel_inside, key_inside, Played, played_first, played-note, within_inside, kind_of_within, noted}
 use Rattle.player.proofs.Answered.{too_many, all-taken, one-refused}
 use Rattle.player.proofs.notes.after.Statement.{statement}
 use Rattle.player.proofs.notes.after.Tie as tie
@@ -36,7 +36,7 @@ loop-holds : tie.Need-loop-init invariant-loop decreases-loop
 loop-holds c =
     let a = c.before.args in
     let long : length a.t2.records ≡ capacity = search (rules, unmapped) in
-    (omega (arith, length-map a.t2.records record_of, c.if1.false), played-first _ _ _ (shaped_array a.table _ c.before.well-formed.0))
+    (omega (arith, length-map a.t2.records record_of, c.if1.false), played_first _ _ _ (shaped_array a.table _ c.before.well-formed.0))
 
 -- the event that is looked at, as the definitions take it
 next-is : (c : tie.After-event-within invariant-loop decreases-loop) → let l = c.before.before.before.before.loop in let rs = c.before.before.before.before.before.before.args.t2.records in get_or (map record_of rs) l.index (record_of past) ≡ record_of (get_or rs l.index past)

@@ -6,7 +6,7 @@ use borrow.Author.Rules.{rules}
 use Rattle.track.specs.List.{capacity}
 use Rattle.player.specs.Table.{places}
 use Rattle.player.proofs.Counting.{is_silent, is_sounding}
-use Rattle.player.proofs.Scanning.{Scanned, scanned-first, scanned-full, scanned-all, scanned-silent, scanned-sounding}
+use Rattle.player.proofs.Scanning.{Scanned, scanned_first, scanned-full, scanned-all, scanned-silent, scanned-sounding}
 use Rattle.player.proofs.silence.silence_from.Statement.{statement}
 use Rattle.player.proofs.silence.silence_from.Tie as tie
 
@@ -17,7 +17,7 @@ abbrev decreases-loop : tie.decreases-loop
 decreases-loop from table list₀ place₀ list place = places - place
 
 loop-holds : tie.Need-loop-init invariant-loop decreases-loop
-loop-holds c = scanned-first _ _ _ _ _ c.new.ensures
+loop-holds c = scanned_first _ _ _ _ _ c.new.ensures
 
 returns : tie.Need-returns invariant-loop decreases-loop
 returns c = scanned-full _ _ _ c.before.before.loop.invariant c.if1.true

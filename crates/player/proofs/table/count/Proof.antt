@@ -6,7 +6,7 @@ use native.Mathlib.Omega.{arith}
 use borrow.Author.Rules.{rules}
 use lib.ListN.{length}
 use Rattle.player.specs.Table.{keys}
-use Rattle.player.proofs.Counting.{is_silent, is_sounding, Counted, counted-first, counted-silent, counted-sounding, counted-all}
+use Rattle.player.proofs.Counting.{is_silent, is_sounding, Counted, counted_first, counted-silent, counted-sounding, counted-all}
 use Rattle.player.proofs.table.count.Statement.{statement}
 use Rattle.player.proofs.table.count.Tie as tie
 
@@ -17,7 +17,7 @@ abbrev decreases-loop : tie.decreases-loop
 decreases-loop channel sounding₀ key₀ sounding key = keys - key
 
 loop-holds : tie.Need-loop-init invariant-loop decreases-loop
-loop-holds c = counted-first _
+loop-holds c = counted_first _
 
 add-sounding : tie.Need-overflow-add-sounding invariant-loop decreases-loop
 add-sounding c = record { fits = omega (arith, c.before.before.before.loop.invariant.few) }

@@ -8,7 +8,7 @@ use Rattle.player.specs.Table.{channels}
 use Rattle.player.specs.Sounding.{sounding_count}
 use Rattle.player.proofs.Arrays.{shaped_array}
 use Rattle.player.proofs.Counting.{counts_stored}
-use Rattle.player.proofs.Stored.{Stored, stored-first, stored_more, stored-all}
+use Rattle.player.proofs.Stored.{Stored, stored_first, stored_more, stored-all}
 use Rattle.player.proofs.table.counts.Statement.{statement}
 use Rattle.player.proofs.table.counts.Tie as tie
 
@@ -30,7 +30,7 @@ counts-spec =
     (tie.spec
     invariant-loop
     decreases-loop
-    (λ c. stored-first _ _)
+    (λ c. stored_first _ _)
     (λ c. search rules)
     (λ c. search rules)
     (λ c κs. search rules)

@@ -64,7 +64,7 @@ text-requires c κs =
 
 returns : tie.Need-returns
 unfolding row_meta
-returns c = rw c.before.match.keys1 c.track-number.ensures
+returns c = rw c.before.match.keys1 c.track_number.ensures
 
 returns-2 : tie.Need-returns-2
 unfolding row_meta

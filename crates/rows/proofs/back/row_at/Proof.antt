@@ -2,7 +2,7 @@
 use Prim.Native.Nat.{◌-◌}
 use borrow.Author.Rules.{rules}
 use Rattle.rows.specs.Rows.{width}
-use Rattle.rows.proofs.Copying.{Copied, copied-first, copied_more, copied_all}
+use Rattle.rows.proofs.Copying.{Copied, copied_first, copied_more, copied_all}
 use Rattle.rows.proofs.back.row_at.Statement.{statement}
 use Rattle.rows.proofs.back.row_at.Tie as tie
 
@@ -13,7 +13,7 @@ abbrev decreases-loop : tie.decreases-loop
 decreases-loop cells at row₀ i₀ row i = width - i
 
 loop-holds : tie.Need-loop-init invariant-loop decreases-loop
-loop-holds c = copied-first _ _
+loop-holds c = copied_first _ _
 
 loop-again : tie.Need-loop-preserved invariant-loop decreases-loop
 loop-again c = let l = c.before.before in copied_more _ _ l.before.requires l.loop.invariant c.before.loop-test.true

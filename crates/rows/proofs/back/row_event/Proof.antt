@@ -4,7 +4,7 @@ use lib.ListN.{length}
 use borrow.Author.Tests.{not-true, not-false}
 use Rattle.rows.specs.Rows.{width}
 use Rattle.rows.specs.RowEvent.{called_row}
-use Rattle.rows.proofs.IsRow.{delta-above, fields-above, all_fit}
+use Rattle.rows.proofs.IsRow.{delta_above, fields-above, all_fit}
 use borrow.Author.Rules.{rules}
 use Rattle.rows.proofs.back.row_event.Statement.{statement}
 use Rattle.rows.proofs.back.row_event.Tie as tie
@@ -13,7 +13,7 @@ returns : tie.Need-returns
 returns c =
     let r = c.before.args.t1 in
     let l : length r ≡ width = search rules in
-    delta-above r l c.if1.true
+    delta_above r l c.if1.true
 
 returns-2 : tie.Need-returns-2
 returns-2 c =

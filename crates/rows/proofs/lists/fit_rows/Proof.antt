@@ -11,7 +11,7 @@ use Rattle.track.specs.List.{capacity}
 use Rattle.track.proofs.Reading.{few}
 use Rattle.rows.specs.Rows.{width}
 use Rattle.rows.specs.Read.{rows_read}
-use Rattle.rows.proofs.CellsFit.{few-laid, fitted, short}
+use Rattle.rows.proofs.CellsFit.{few_laid, fitted, short}
 use Rattle.rows.proofs.lists.fit_rows.Statement.{statement}
 use Rattle.rows.proofs.lists.fit_rows.Tie as tie
 
@@ -29,7 +29,7 @@ enough : (c : tie.After-lay-rows) → length (list c).events * width ≤ length 
 enough c = omega (arith, room c)
 
 counted : (c : tie.After-lay-rows) → c.lay-rows.result.count ≤ capacity
-counted c = omega (arith, room c, few-laid (list c) noughts _ (rows_read c.lay-rows.result) (enough c) c.lay-rows.ensures)
+counted c = omega (arith, room c, few_laid (list c) noughts _ (rows_read c.lay-rows.result) (enough c) c.lay-rows.ensures)
 
 mul-n : tie.Need-overflow-mul-n
 mul-n c = record { fits = omega (arith, counted c.before.before) }

@@ -11,7 +11,7 @@ use Rattle.track.specs.List.{capacity}
 use Rattle.rows.specs.Rows.{width}
 use Rattle.rows.specs.Read.{goes, LaidStep, laid_next}
 use Rattle.rows.specs.Short.{ShortRead}
-use Rattle.rows.proofs.ShortReads.{short-within, short-full, short-next}
+use Rattle.rows.proofs.ShortReads.{short_within, short_full, short_next}
 use Rattle.rows.proofs.lists.lay_next.Statement.{statement}
 use Rattle.rows.proofs.lists.lay_next.Tie as tie
 
@@ -25,7 +25,7 @@ found c = c.before.short-at.ensures c.if1.false
 returns-2 : tie.Need-returns-2
 returns-2 c =
     let a = c.before.before.before.before.before.before.args in
-    ap (λ (m : smf.Next). laid_next m a.cursor.count a.rows.now) (sym (short-full (rules_of a.rules) capacity (found c.before) a.cursor.count c.if2.true))
+    ap (λ (m : smf.Next). laid_next m a.cursor.count a.rows.now) (sym (short_full (rules_of a.rules) capacity (found c.before) a.cursor.count c.if2.true))
 
 shared-slice-read-short-row : tie.Need-shared-slice-read-short-row
 shared-slice-read-short-row c = (found c.before.before.before).there
@@ -37,7 +37,7 @@ add-t19 : tie.Need-overflow-add-t19
 add-t19 c =
     let f = c.before.before.before.before.before.before.before in
     let a = f.before.before.before.before.before.args in
-    omega (arith, short-within (rules_of a.rules) capacity (found f) a.cursor.count)
+    omega (arith, short_within (rules_of a.rules) capacity (found f) a.cursor.count)
 
 returns-3 : tie.Need-returns-3
 returns-3 c =
@@ -48,7 +48,7 @@ returns-3 c =
     let r = f.before.short-at.result in
     let put = p.put-row.ensures ∙ ap (λ (x : List ℕ). over x a.rows.now (a.cursor.count * width)) p.before.Short-row.ensures in
     ap (λ (l : List ℕ). record { onward = goes 0 (record { place = a.cursor.place + r.used; running = r.status; count = a.cursor.count + 1 }); cells = l }) put
-    ∙ ap (λ (m : smf.Next). laid_next m a.cursor.count a.rows.now) (sym (short-next (rules_of a.rules) capacity (found f) a.cursor.count (omega (arith, g.if2.false))))
+    ∙ ap (λ (m : smf.Next). laid_next m a.cursor.count a.rows.now) (sym (short_next (rules_of a.rules) capacity (found f) a.cursor.count (omega (arith, g.if2.false))))
 
 pub lay-next-spec : {M : Type 1} → statement M
 lay-next-spec =

@@ -12,7 +12,7 @@ use Rattle.track.specs.List.{capacity}
 use Rattle.track.proofs.Reading.{took}
 use Rattle.rows.specs.Read.{laid_of}
 use Rattle.rows.specs.declared.lists.Laid.{Laid}
-use Rattle.rows.proofs.RowCells.{Laying, unread, laying_first, laying-length, laying-more, laid, LaidOn, laid_on, laid_stop}
+use Rattle.rows.proofs.RowCells.{Laying, unread, laying_first, laying_length, laying-more, laid, LaidOn, laid_on, laid_stop}
 use Rattle.rows.proofs.lists.lay_rows.Statement.{statement}
 use Rattle.rows.proofs.lists.lay_rows.Tie as tie
 
@@ -31,7 +31,7 @@ lay-next-requires : tie.Need-lay-next-requires invariant-loop decreases-loop
 lay-next-requires c κs =
     let l = c.before.loop in
     let room = c.before.before.before.before.before.before.requires in
-    (l.invariant.runs, omega (arith, laying-length room l.invariant, room))
+    (l.invariant.runs, omega (arith, laying_length room l.invariant, room))
 
 -- a step that was laid, by what the list takes
 on : (c : tie.After-next invariant-loop decreases-loop) →
@@ -74,7 +74,7 @@ same_length c =
     let stop = laid_stop (next_at (rules_of a.rules) capacity a.raw.now (reader_of w.1.cursor)) w.1.cursor.count
     (ap (λ (m : Laid). laid_of m w.3.last.1.1.1.0) (sym w.7.given.1) ∙ w.3.ensures)
     in
-    ap length w.9 ∙ ap length stop.kept ∙ laying-length s.requires w.1.inv)
+    ap length w.9 ∙ ap length stop.kept ∙ laying_length s.requires w.1.inv)
     (λ w. ap length w.1)
     j.if1.branch
 

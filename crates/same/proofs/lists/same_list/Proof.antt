@@ -10,7 +10,7 @@ use Rattle.track.specs.List.{capacity, record_of}
 use Rattle.track.proofs.Held.{past, unmapped}
 use Rattle.same.specs.Same.{Tells}
 use Rattle.same.proofs.SameTests.{told_true, told_false}
-use Rattle.same.proofs.SameLists.{Agree, agree-first, counts-differ, all-agree, held-agree, same_more, not_same}
+use Rattle.same.proofs.SameLists.{Agree, agree_first, counts_differ, all_agree, held_agree, same_more, not_same}
 use Rattle.same.proofs.lists.same_list.Statement.{statement}
 use Rattle.same.proofs.lists.same_list.Tie as tie
 
@@ -24,20 +24,20 @@ decreases-loop s t a b count i₀ i = count - i
 returns : tie.Need-returns invariant-loop decreases-loop
 returns c =
     let a = c.before.before.before.args in
-    counts-differ a.a-bytes.now a.t1.records a.b-bytes.now a.t3.records c.if1.true
+    counts_differ a.a-bytes.now a.t1.records a.b-bytes.now a.t3.records c.if1.true
 
 loop-holds : tie.Need-loop-init invariant-loop decreases-loop
 loop-holds c =
     let p = c.before.before.before.args in
     let q : length p.t1.records ≡ capacity = search (rules, unmapped) in
     let r : length p.t3.records ≡ capacity = search (rules, unmapped) in
-    (q, r, omega arith, agree-first p.a-bytes.now p.t1.records p.b-bytes.now p.t3.records)
+    (q, r, omega arith, agree_first p.a-bytes.now p.t1.records p.b-bytes.now p.t3.records)
 
 returns-2 : tie.Need-returns-2 invariant-loop decreases-loop
 returns-2 c =
     let l = c.before.before.loop in
     let a = c.before.before.before.before.before.before.args in
-    held-agree a.a-bytes.now a.t1.records a.b-bytes.now a.t3.records c.before.before.before.if1.false (omega (arith, l.invariant.0)) (omega (arith, l.invariant.1)) l.invariant.2 l.invariant.3
+    held_agree a.a-bytes.now a.t1.records a.b-bytes.now a.t3.records c.before.before.before.if1.false (omega (arith, l.invariant.0)) (omega (arith, l.invariant.1)) l.invariant.2 l.invariant.3
 
 returns-3 : tie.Need-returns-3 invariant-loop decreases-loop
 returns-3 c =
@@ -66,7 +66,7 @@ returns-4 : tie.Need-returns-4 invariant-loop decreases-loop
 returns-4 c =
     let l = c.before.loop in
     let a = c.before.before.before.before.before.args in
-    all-agree a.a-bytes.now a.t1.records a.b-bytes.now a.t3.records {i = l.i} c.before.before.if1.false (omega (arith, l.invariant.2)) l.invariant.3
+    all_agree a.a-bytes.now a.t1.records a.b-bytes.now a.t3.records {i = l.i} c.before.before.if1.false (omega (arith, l.invariant.2)) l.invariant.3
 
 pub same-list-spec : {M : Type 1} → statement M
 same-list-spec =

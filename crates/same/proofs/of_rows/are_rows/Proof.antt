@@ -2,8 +2,8 @@
 use mathlib.Core.Path.{sym, ap, ◌∙◌}
 use native.Mathlib.Omega.{arith}
 use Rattle.rows.specs.RowAnswer.{row_answer}
-use Rattle.rows.proofs.IsRow.{is-event, is_none}
-use Rattle.rows.proofs.RowsOn.{Looked, looked_first, looked-none, looked-more, looked-last}
+use Rattle.rows.proofs.IsRow.{is_event, is_none}
+use Rattle.rows.proofs.RowsOn.{Looked, looked_first, looked_none, looked_more, looked_last}
 use borrow.Author.Rules.{rules}
 use Rattle.same.proofs.of_rows.are_rows.Statement.{statement}
 use Rattle.same.proofs.of_rows.are_rows.Tie as tie
@@ -20,7 +20,7 @@ loop-holds c = looked_first _ _
 returns : tie.Need-returns invariant-loop decreases-loop
 returns c =
     let l = c.before.before.before.before.loop in
-    looked-none l.invariant c.before.before.before.loop-test.true (is_none _ (sym c.before.before.row-event-at.ensures ∙ ap row_answer c.enum_told.given.1)).0
+    looked_none l.invariant c.before.before.before.loop-test.true (is_none _ (sym c.before.before.row-event-at.ensures ∙ ap row_answer c.enum_told.given.1)).0
 
 add_at : tie.Need-overflow-add-at invariant-loop decreases-loop
 add_at c =
@@ -30,10 +30,10 @@ add_at c =
 loop-again : tie.Need-loop-preserved invariant-loop decreases-loop
 loop-again c =
     let l = c.before.before.before.before.loop in
-    looked-more l.invariant c.before.before.before.loop-test.true (is-event _ (sym c.before.before.row-event-at.ensures ∙ ap row_answer c.enum-told2.given.1)).0
+    looked_more l.invariant c.before.before.before.loop-test.true (is_event _ (sym c.before.before.row-event-at.ensures ∙ ap row_answer c.enum-told2.given.1)).0
 
 returns-2 : tie.Need-returns-2 invariant-loop decreases-loop
-returns-2 c = looked-last c.before.loop.invariant c.loop-test.false
+returns-2 c = looked_last c.before.loop.invariant c.loop-test.false
 
 pub are-rows-spec : {M : Type 1} → statement M
 are-rows-spec =

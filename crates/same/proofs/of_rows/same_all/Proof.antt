@@ -2,7 +2,7 @@
 use native.Mathlib.Omega.{arith}
 use borrow.Author.Tests.{not-true, not-false}
 use Rattle.same.proofs.SameTests.{told_true, told_false}
-use Rattle.same.proofs.RowsLeft.{Compared, compared-first, compared-more, compared-differ, compared-last}
+use Rattle.same.proofs.RowsLeft.{Compared, compared_first, compared-more, compared-differ, compared-last}
 use borrow.Author.Rules.{rules}
 use Rattle.same.proofs.of_rows.same_all.Statement.{statement}
 use Rattle.same.proofs.of_rows.same_all.Tie as tie
@@ -14,7 +14,7 @@ abbrev decreases-loop : tie.decreases-loop
 decreases-loop a a-bytes b b-bytes count left₀ at₀ left at = left
 
 loop-holds : tie.Need-loop-init invariant-loop decreases-loop
-loop-holds c = let p = c.before.before.before.before.requires in compared-first _ _ _ _ _ p.1.0 p.1.1
+loop-holds c = let p = c.before.before.before.before.requires in compared_first _ _ _ _ _ p.1.0 p.1.1
 
 returns : tie.Need-returns invariant-loop decreases-loop
 returns c =

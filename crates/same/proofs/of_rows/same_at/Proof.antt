@@ -4,13 +4,13 @@ use lib.ListN.{take, drop}
 use Rattle.rows.specs.Rows.{width}
 use Rattle.rows.specs.RowEvent.{event_of_row}
 use Rattle.rows.specs.RowAnswer.{row_answer}
-use Rattle.same.proofs.Asked.{first-none, second_none, both-given}
+use Rattle.same.proofs.Asked.{first_none, second_none, both_given}
 use borrow.Author.Rules.{rules}
 use Rattle.same.proofs.of_rows.same_at.Statement.{statement}
 use Rattle.same.proofs.of_rows.same_at.Tie as tie
 
 returns : tie.Need-returns
-returns c = first-none _ _ _ _ (sym c.before.before.row-event-at.ensures ∙ ap row_answer c.enum_told.given.1)
+returns c = first_none _ _ _ _ (sym c.before.before.row-event-at.ensures ∙ ap row_answer c.enum_told.given.1)
 
 returns-2 : tie.Need-returns-2
 returns-2 c =
@@ -18,7 +18,7 @@ returns-2 c =
 
 returns-3 : tie.Need-returns-3
 returns-3 c =
-    both-given _ _ _ _ (sym c.before.before.before.before.before.before.before.before.row-event-at.ensures ∙ ap row_answer c.before.before.before.before.before.before.x.given.1) (sym c.before.before.before.before.row-event-at2.ensures ∙ ap row_answer c.before.before.y.given.1) c.same_event.result c.same_event.ensures
+    both_given _ _ _ _ (sym c.before.before.before.before.before.before.before.before.row-event-at.ensures ∙ ap row_answer c.before.before.before.before.before.before.x.given.1) (sym c.before.before.before.before.row-event-at2.ensures ∙ ap row_answer c.before.before.y.given.1) c.same_event.result c.same_event.ensures
 
 pub same-at-spec : {M : Type 1} → statement M
 same-at-spec =

@@ -1,7 +1,7 @@
 -- `same_rows` meets its contract, by what each row gives.
 use mathlib.Core.Path.{sym, ap, ◌∙◌}
 use Rattle.rows.specs.RowAnswer.{row_answer}
-use Rattle.same.proofs.Asked.{first-no-row, second-no-row, both-rows, rows_tell}
+use Rattle.same.proofs.Asked.{first_no_row, second_no_row, both-rows, rows_tell}
 use borrow.Author.Rules.{rules}
 use Rattle.same.proofs.of_rows.same_rows.Statement.{statement}
 use Rattle.same.proofs.of_rows.same_rows.Tie as tie
@@ -9,12 +9,12 @@ use Rattle.same.proofs.of_rows.same_rows.Tie as tie
 returns : tie.Need-returns
 returns c =
     let n = c.before.refusal.given in
-    rw (first-no-row _ _ (sym c.before.before.before.row-event.ensures ∙ ap row_answer n.1))
+    rw (first_no_row _ _ (sym c.before.before.before.row-event.ensures ∙ ap row_answer n.1))
 
 returns-2 : tie.Need-returns-2
 returns-2 c =
     let n = c.before.refusal2.given in
-    rw (second-no-row _ _ (sym c.before.before.before.row-event2.ensures ∙ ap row_answer n.1))
+    rw (second_no_row _ _ (sym c.before.before.before.row-event2.ensures ∙ ap row_answer n.1))
 
 returns-3 : tie.Need-returns-3
 returns-3 c =

@@ -12,7 +12,7 @@ unfolding Short
 load-length-requires c κs = subst Short c.before.raw2.given.1 c.before.before.before.requires
 
 add-result : tie.Need-overflow-add-result
-add-result c = omega (arith, c.load-length.ensures, load-length-requires c.before tt, encode_most c.before.before.raw2.given.0.1.0.length)
+add-result c = omega (arith, c.load_length_lem.ensures, load-length-requires c.before tt, encode_most c.before.before.raw2.given.0.1.0.length)
 
 load-length-requires-2 : tie.Need-load-length-requires-2
 unfolding Short
@@ -34,7 +34,7 @@ returns c = rw (c.before.before.raw.given.1, c.channel_length.ensures)
 
 returns-2 : tie.Need-returns-2
 unfolding raw_length
-returns-2 c = rw (c.before.before.raw2.given.1, c.load-length.ensures)
+returns-2 c = rw (c.before.before.raw2.given.1, c.load_length_lem.ensures)
 
 returns-3 : tie.Need-returns-3
 unfolding raw_length

@@ -17,13 +17,13 @@ data_few false = omega arith
 returns : tie.Need-returns
 returns c =
     let a = c.before.before.before.before.args in
-    rw (eq-eqb a.running.status a.c.status c.if1.true) (omega (arith, c.before.before.before.data-length.ensures))
+    rw (eq-eqb a.running.status a.c.status c.if1.true) (omega (arith, c.before.before.before.data_length_lem.ensures))
 
 add-result : tie.Need-overflow-add-result
-add-result c = omega (arith, c.before.before.before.data-length.ensures, data_few c.before.before.before.before.args.c.pair)
+add-result c = omega (arith, c.before.before.before.data_length_lem.ensures, data_few c.before.before.before.before.args.c.pair)
 
 returns-2 : tie.Need-returns-2
-returns-2 c = rw (ne_eqb _ _ c.if1.false) (omega (arith, c.before.before.before.data-length.ensures))
+returns-2 c = rw (ne_eqb _ _ c.if1.false) (omega (arith, c.before.before.before.data_length_lem.ensures))
 
 pub channel-length-spec : {M : Type 1} → statement M
 channel-length-spec = tie.close (tie.spec (λ c κs. search rules) returns add-result returns-2)

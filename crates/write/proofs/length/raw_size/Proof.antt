@@ -3,12 +3,12 @@ use mathlib.Core.Path.{◌≡◌, refl, sym, ap, subst, ◌∙◌}
 use native.Mathlib.Omega.{arith}
 use borrow.Author.Rules.{rules}
 use Rattle.smf.proofs.Number.{encode_most}
-use Rattle.write.proofs.Lengths.{sound-short, raw_few, raw-size}
+use Rattle.write.proofs.Lengths.{sound_short, raw_few, raw-size}
 use Rattle.write.proofs.length.raw_size.Statement.{statement}
 use Rattle.write.proofs.length.raw_size.Tie as tie
 
 body-length-requires : tie.Need-body-length-requires
-body-length-requires c κs = let s = c.before.before in sound-short s.args.bytes.now s.args.event.raw s.requires
+body-length-requires c κs = let s = c.before.before in sound_short s.args.bytes.now s.args.event.raw s.requires
 
 add-length : tie.Need-overflow-add-length
 add-length c =

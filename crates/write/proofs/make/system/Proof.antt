@@ -5,7 +5,7 @@ use Rattle.smf.specs.Place.{bytes_of}
 use Rattle.smf.specs.Wire as wire
 use Rattle.meta.specs.Meta.{span_of}
 use Rattle.write.specs.Raw.{is_sound, wire_of}
-use Rattle.write.proofs.Payloads.{lent-outside, lent-long, lent-there, looked-refused, looked-there}
+use Rattle.write.proofs.Payloads.{lent_outside, lent_long, lent_there, looked-refused, looked-there}
 use Rattle.write.proofs.make.system.Statement.{statement}
 use Rattle.write.proofs.make.system.Tie as tie
 

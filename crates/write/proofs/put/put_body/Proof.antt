@@ -9,7 +9,7 @@ use Rattle.smf.specs.Wire.{encode_raw}
 use Rattle.write.specs.Raw.{is_sound, wire_of, raw_length}
 use Rattle.write.specs.declared.raw.Raw.{Raw}
 use Rattle.write.specs.declared.raw.Raw.TheVariants as raw
-use Rattle.write.proofs.Payloads.{lent-inside}
+use Rattle.write.proofs.Payloads.{lent_inside}
 use Rattle.write.proofs.Lengths.{raw-length}
 use Rattle.write.proofs.put.put_body.Statement.{statement}
 use Rattle.write.proofs.put.put_body.Tie as tie
@@ -29,12 +29,12 @@ put-channel-requires c κs = let s = c.before.before.before.before.before.before
 put-load-requires : tie.Need-put-load-requires
 unfolding is_sound wire_of raw_length
 put-load-requires c κs = let s = c.before.before.before.before.before.before in let v = c.before.before.raw2.given.0 in
-    let r = subst (Ready s) c.before.before.raw2.given.1 s.requires in (lent-inside _ _ r.0, roomy s (raw.System v.0 v.1.0) r)
+    let r = subst (Ready s) c.before.before.raw2.given.1 s.requires in (lent_inside _ _ r.0, roomy s (raw.System v.0 v.1.0) r)
 
 put-typed-requires : tie.Need-put-typed-requires
 unfolding is_sound wire_of raw_length
 put-typed-requires c κs = let s = c.before.before.before.before.before.before in let v = c.before.before.raw3.given.0 in
-    let r = subst (Ready s) c.before.before.raw3.given.1 s.requires in (lent-inside _ _ r.0, roomy s (raw.Typed v.0 v.1.0) r)
+    let r = subst (Ready s) c.before.before.raw3.given.1 s.requires in (lent_inside _ _ r.0, roomy s (raw.Typed v.0 v.1.0) r)
 
 put-fixed-requires : tie.Need-put-fixed-requires
 unfolding is_sound wire_of raw_length

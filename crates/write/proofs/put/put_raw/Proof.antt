@@ -6,7 +6,7 @@ use borrow.Author.Rules.{rules}
 use Rattle.smf.specs.Number.{encode_number}
 use Rattle.smf.specs.Wire.{encode_raw, encode_raw_event}
 use Rattle.write.specs.Raw.{wire_of}
-use Rattle.write.proofs.Storing.{first-room, second-room, over_both}
+use Rattle.write.proofs.Storing.{first_room, second-room, over_both}
 use Rattle.write.proofs.put.put_raw.Statement.{statement}
 use Rattle.write.proofs.put.put_raw.Tie as tie
 
@@ -16,7 +16,7 @@ put-delta-requires c κs =
     let s = c.before.before.before in
     let a = s.args in
     let behind = encode_raw a.running.status (wire_of a.bytes.now a.event.raw) in
-    (s.requires.0, first-room (encode_number a.event.delta.0) behind a.out.now a.at s.requires.2)
+    (s.requires.0, first_room (encode_number a.event.delta.0) behind a.out.now a.at s.requires.2)
 
 put-body-requires : tie.Need-put-body-requires
 unfolding encode_raw_event

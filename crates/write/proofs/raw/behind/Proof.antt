@@ -1,11 +1,11 @@
 -- `behind` meets its contract: the delta's width, and then what stands behind it.
 use borrow.Author.Rules.{rules}
-use Rattle.write.proofs.Doors.{behind-wide, behind-refused, behind-raw}
+use Rattle.write.proofs.Doors.{behind_wide, behind-refused, behind-raw}
 use Rattle.write.proofs.raw.behind.Statement.{statement}
 use Rattle.write.proofs.raw.behind.Tie as tie
 
 returns : tie.Need-returns
-returns c = let a = c.before.before.args in λ bytes. behind-wide bytes a.delta.0 a.made c.if1.true
+returns c = let a = c.before.before.args in λ bytes. behind_wide bytes a.delta.0 a.made c.if1.true
 
 returns-2 : tie.Need-returns-2
 returns-2 c = let a = c.before.before.before.before.before.args in λ bytes. behind-refused bytes a.delta.0 c.before.before.before.if1.false a.made _ c.before.made.given.1

@@ -6,7 +6,7 @@ use borrow.Author.Tests.{not-true, not-false}
 use Rattle.smf.specs.Lists.{records_judged}
 use Rattle.base.specs.Rules.{rules_of}
 use Rattle.track.specs.List.{capacity, record_of}
-use Rattle.write.proofs.Sizes.{size-invalid, size-many, size_few}
+use Rattle.write.proofs.Sizes.{size_invalid, size-many, size_few}
 use Rattle.write.proofs.records.list_length.Statement.{statement}
 use Rattle.write.proofs.records.list_length.Tie as tie
 
@@ -14,7 +14,7 @@ returns : tie.Need-returns
 returns c =
     let a = c.before.before.before.before.args in
     let v = c.before.before.is_valid in
-    rw c.refused.ensures (size-invalid capacity a.running.status (records_judged (rules_of a.rules) a.bytes.now (map record_of a.list.records)) a.list.count (sym v.ensures ∙ not-true v.result c.before.if1.true))
+    rw c.refused.ensures (size_invalid capacity a.running.status (records_judged (rules_of a.rules) a.bytes.now (map record_of a.list.records)) a.list.count (sym v.ensures ∙ not-true v.result c.before.if1.true))
 
 returns-2 : tie.Need-returns-2
 returns-2 c =

@@ -9,7 +9,7 @@ use Rattle.base.specs.Rules.{rules_of}
 use Rattle.track.specs.List.{capacity, record_of}
 use Rattle.track.proofs.Held.{past, unmapped}
 use Rattle.write.specs.Size.{size_judged, length_said}
-use Rattle.write.proofs.Judging.{recordsCounted, records-counted, record-counted, record-lawful}
+use Rattle.write.proofs.Judging.{recordsCounted, records-counted, record-counted, record_lawful}
 use Rattle.write.proofs.Doors.{legal_number, told}
 use Rattle.write.proofs.Measuring.{Seen, seen_first, seen_last, seen-illegal, seen_most, seen_more}
 use Rattle.write.proofs.records.measure_records.Statement.{statement}
@@ -57,7 +57,7 @@ add-length c =
     let m = c.before.before.before.before in
     let l = m.before.before.before.before.loop in
     let a = m.before.before.before.before.before.before.args in
-    let most = seen_most a.running.status (recordsCounted (rules_of a.rules) a.bytes.now a.t1.records a.t1.count) l.invariant.2 (inside m) (legal (rules_of a.rules) a.bytes.now (record_of past)) _ (there m) m.measured.result (said m) (rules_of a.rules) (record-lawful (rules_of a.rules) a.bytes.now (record_of (get_or a.t1.records l.index past))) c.before.before.size.given.0.0 c.before.before.size.given.1 in
+    let most = seen_most a.running.status (recordsCounted (rules_of a.rules) a.bytes.now a.t1.records a.t1.count) l.invariant.2 (inside m) (legal (rules_of a.rules) a.bytes.now (record_of past)) _ (there m) m.measured.result (said m) (rules_of a.rules) (record_lawful (rules_of a.rules) a.bytes.now (record_of (get_or a.t1.records l.index past))) c.before.before.size.given.0.0 c.before.before.size.given.1 in
     omega (arith, most, l.invariant.2.small, m.before.before.before.before.before.before.requires)
 
 loop-again : tie.Need-loop-preserved invariant-loop decreases-loop
@@ -65,7 +65,7 @@ loop-again c =
     let m = c.before.before.before.before in
     let l = m.before.before.before.before.loop in
     let a = m.before.before.before.before.before.before.args in
-    (l.invariant.0, omega arith, seen_more a.running.status (recordsCounted (rules_of a.rules) a.bytes.now a.t1.records a.t1.count) l.invariant.2 (inside m) (legal (rules_of a.rules) a.bytes.now (record_of past)) _ (there m) m.measured.result (said m) (rules_of a.rules) (record-lawful (rules_of a.rules) a.bytes.now (record_of (get_or a.t1.records l.index past))) c.before.before.size.given.0.0 c.before.before.size.given.1)
+    (l.invariant.0, omega arith, seen_more a.running.status (recordsCounted (rules_of a.rules) a.bytes.now a.t1.records a.t1.count) l.invariant.2 (inside m) (legal (rules_of a.rules) a.bytes.now (record_of past)) _ (there m) m.measured.result (said m) (rules_of a.rules) (record_lawful (rules_of a.rules) a.bytes.now (record_of (get_or a.t1.records l.index past))) c.before.before.size.given.0.0 c.before.before.size.given.1)
 
 returns-2 : tie.Need-returns-2 invariant-loop decreases-loop
 returns-2 c =

@@ -10,7 +10,7 @@ use Rattle.track.specs.List.{capacity, record_of}
 use Rattle.track.proofs.Held.{past, unmapped}
 use Rattle.write.proofs.Judging.{recordsCounted, records-counted, record-counted}
 use Rattle.write.proofs.Doors.{legal_number, told}
-use Rattle.write.proofs.Writing.{Going, going-first, going-length, going-last, going_more, going-never}
+use Rattle.write.proofs.Writing.{Going, going_first, going-length, going-last, going_more, going-never}
 use Rattle.write.proofs.records.put_records.Statement.{statement}
 use Rattle.write.proofs.records.put_records.Tie as tie
 
@@ -25,7 +25,7 @@ loop-holds : tie.Need-loop-init invariant-loop decreases-loop
 loop-holds c =
     let p = c.before.before.requires in
     let long : length c.before.before.args.t1.records ≡ capacity = search (rules, unmapped) in
-    (omega (arith, p.0), omega arith, going-first _ _ _ p.1)
+    (omega (arith, p.0), omega arith, going_first _ _ _ p.1)
 
 written-requires : tie.Need-written-requires invariant-loop decreases-loop
 written-requires c κs = told _ _ (legal_number _ _ _) c.before.record-raw.result c.before.record-raw.ensures

@@ -3,7 +3,7 @@ use mathlib.Core.Path.{◌≡◌, refl, sym, ap, subst, ◌∙◌}
 use borrow.Author.Rules.{rules}
 use borrow.Author.Tests.{lt-ltb, le-ltb, eq-eqb, ne_eqb, le-leb, lt-leb, leb-true, not-true, not-false}
 use Rattle.rows.specs.RowEvent.{fields_fit, row_kind}
-use Rattle.write.proofs.Forms.{sys-ex-made, escape-made}
+use Rattle.write.proofs.Forms.{sys_ex_made, escape_made}
 use Rattle.write.proofs.row_door.row_made.Statement.{statement}
 use Rattle.write.proofs.row_door.row_made.Tie as tie
 
@@ -13,11 +13,11 @@ returns c = rw (lt-ltb _ _ c.before.if1.true) (c.message.ensures _ _ _ _ _)
 
 returns-2 : tie.Need-returns-2
 unfolding fields_fit row_kind
-returns-2 c = rw c.before.if2.true (c.system.ensures ∙ sym (sys-ex-made _ _ _))
+returns-2 c = rw c.before.if2.true (c.system.ensures ∙ sym (sys_ex_made _ _ _))
 
 returns-3 : tie.Need-returns-3
 unfolding fields_fit row_kind
-returns-3 c = rw c.before.if3.true (c.system2.ensures ∙ sym (escape-made _ _ _))
+returns-3 c = rw c.before.if3.true (c.system2.ensures ∙ sym (escape_made _ _ _))
 
 row-meta-requires : tie.Need-row-meta-requires
 row-meta-requires c κs = (c.before.before.if1.false, c.before.if2.false, c.if3.false)

@@ -9,7 +9,7 @@ use Rattle.smf.specs.Answer.{pick, refuses}
 use Rattle.base.specs.Rules.{rules_of}
 use Rattle.meta.specs.Meta.{span_of}
 use Rattle.rows.specs.RowEvent.{fields_fit, row_meta}
-use Rattle.write.proofs.Forms.{channel-made, port-made, end-made, tempo-made, sequencer-made}
+use Rattle.write.proofs.Forms.{channel_made, port_made, end_made, tempo_made, sequencer_made}
 use Rattle.write.proofs.RowForms.{narrower, small, text-fits, text-meta}
 use Rattle.write.proofs.row_door.row_meta.Statement.{statement}
 use Rattle.write.proofs.row_door.row_meta.Tie as tie
@@ -22,23 +22,23 @@ returns-2 : tie.Need-returns-2
 unfolding fields_fit row_meta
 returns-2 c =
     let a = c.before.before.before.args in
-    rw (c.before.match.keys2, channel-made (rules_of a.rules) a.bytes.now a.a) (c.narrow.ensures _ ∙ sym (narrower (ltb a.a 256) (ltb a.a 16) _ _ (small a.a 16 256 (omega arith))))
+    rw (c.before.match.keys2, channel_made (rules_of a.rules) a.bytes.now a.a) (c.narrow.ensures _ ∙ sym (narrower (ltb a.a 256) (ltb a.a 16) _ _ (small a.a 16 256 (omega arith))))
 
 returns-3 : tie.Need-returns-3
 unfolding fields_fit row_meta
 returns-3 c =
     let a = c.before.before.before.args in
-    rw (c.before.match.keys3, port-made (rules_of a.rules) a.bytes.now a.a) (c.narrow2.ensures _ ∙ sym (narrower (ltb a.a 256) (ltb a.a 128) _ _ (small a.a 128 256 (omega arith))))
+    rw (c.before.match.keys3, port_made (rules_of a.rules) a.bytes.now a.a) (c.narrow2.ensures _ ∙ sym (narrower (ltb a.a 256) (ltb a.a 128) _ _ (small a.a 128 256 (omega arith))))
 
 returns-4 : tie.Need-returns-4
 unfolding fields_fit row_meta
-returns-4 c = rw c.before.match.keys4 (c.own-bytes.ensures _ ∙ sym (end-made _ _))
+returns-4 c = rw c.before.match.keys4 (c.own-bytes.ensures _ ∙ sym (end_made _ _))
 
 returns-5 : tie.Need-returns-5
 unfolding fields_fit row_meta
 returns-5 c =
     let a = c.before.before.before.args in
-    rw (c.before.match.keys5, tempo-made (rules_of a.rules) a.bytes.now a.a) (c.tempo.ensures _ ∙ sym (narrower (ltb a.a (2 ^ 32)) (ltb a.a 16777216) _ _ (small a.a 16777216 (2 ^ 32) (omega arith))))
+    rw (c.before.match.keys5, tempo_made (rules_of a.rules) a.bytes.now a.a) (c.tempo.ensures _ ∙ sym (narrower (ltb a.a (2 ^ 32)) (ltb a.a 16777216) _ _ (small a.a 16777216 (2 ^ 32) (omega arith))))
 
 returns-6 : tie.Need-returns-6
 unfolding fields_fit row_meta
@@ -54,7 +54,7 @@ returns-8 c = rw c.before.match.keys8 (c.row-key.ensures _ _)
 
 returns-9 : tie.Need-returns-9
 unfolding fields_fit row_meta
-returns-9 c = rw c.before.match.keys9 (c.type-inv.ensures ∙ sym (sequencer-made _ _ _))
+returns-9 c = rw c.before.match.keys9 (c.type-inv.ensures ∙ sym (sequencer_made _ _ _))
 
 returns-10 : tie.Need-returns-10
 unfolding fields_fit row_meta

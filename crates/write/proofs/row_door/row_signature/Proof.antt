@@ -3,7 +3,7 @@ use mathlib.Core.Path.{◌≡◌, refl, sym, ap, subst, ◌∙◌}
 use native.Mathlib.Omega.{arith}
 use borrow.Author.Rules.{rules}
 use borrow.Author.Tests.{lt-ltb, le-ltb, eq-eqb, ne_eqb, le-leb, lt-leb, leb-true, not-true, not-false}
-use Rattle.write.proofs.Forms.{signature-fits}
+use Rattle.write.proofs.Forms.{signature_fits}
 use Rattle.write.proofs.RowForms.{bytes_below}
 use Rattle.write.proofs.row_door.row_signature.Statement.{statement}
 use Rattle.write.proofs.row_door.row_signature.Tie as tie
@@ -45,7 +45,7 @@ returns-2 c =
     let v = c.before.before.are_bytes in
     let fit = sym v.ensures ∙ not-false v.result c.before.if1.false in
     let b = bytes_below a.a a.b a.c a.d 0 fit in
-    λ rules bytes. rw (fit, signature-fits rules bytes b.0 b.1 b.2 b.3) (c.signature.ensures bytes)
+    λ rules bytes. rw (fit, signature_fits rules bytes b.0 b.1 b.2 b.3) (c.signature.ensures bytes)
 
 pub row-signature-spec : {M : Type 1} → statement M
 row-signature-spec =

@@ -8,7 +8,7 @@ use Rattle.smf.specs.Answer.{refuses}
 use Rattle.base.specs.Rules.{rules_of}
 use Rattle.track.specs.List.{capacity}
 use Rattle.write.proofs.Judging.{rowsCounted, rows-counted, row-counted}
-use Rattle.write.proofs.Writing.{Going, going-first, going-length, going-last, going-room, going_more, going-never}
+use Rattle.write.proofs.Writing.{Going, going_first, going-length, going-last, going-room, going_more, going-never}
 use Rattle.write.proofs.row_lists.put_rows.Statement.{statement}
 use Rattle.write.proofs.row_lists.put_rows.Tie as tie
 
@@ -20,7 +20,7 @@ abbrev decreases-loop : tie.decreases-loop
 decreases-loop rows count rules bytes out₀ place₀ status₀ i₀ out place status i = count - i
 
 loop-holds : tie.Need-loop-init invariant-loop decreases-loop
-loop-holds c = let p = c.before.before.before.requires in (omega arith, going-first _ _ _ p.1)
+loop-holds c = let p = c.before.before.before.requires in (omega arith, going_first _ _ _ p.1)
 
 write-at-requires : tie.Need-write-at-requires invariant-loop decreases-loop
 write-at-requires c κs =

@@ -5,7 +5,7 @@ use borrow.Author.Tests.{not-true, not-false}
 use Rattle.base.specs.Rules.{rules_of}
 use Rattle.rows.specs.RowLists.{rows_judged}
 use Rattle.track.specs.List.{capacity}
-use Rattle.write.proofs.Sizes.{size-invalid, size-many, size_few}
+use Rattle.write.proofs.Sizes.{size_invalid, size-many, size_few}
 use Rattle.write.proofs.row_lists.rows_length.Statement.{statement}
 use Rattle.write.proofs.row_lists.rows_length.Tie as tie
 
@@ -13,7 +13,7 @@ returns : tie.Need-returns
 returns c =
     let a = c.before.before.before.before.before.args in
     let v = c.before.before.is_valid in
-    rw c.refused.ensures (size-invalid capacity a.running.status (rows_judged (rules_of a.rules) a.bytes.now a.count a.rows.now) a.count (sym v.ensures ∙ not-true v.result c.before.if1.true))
+    rw c.refused.ensures (size_invalid capacity a.running.status (rows_judged (rules_of a.rules) a.bytes.now a.count a.rows.now) a.count (sym v.ensures ∙ not-true v.result c.before.if1.true))
 
 returns-2 : tie.Need-returns-2
 returns-2 c =

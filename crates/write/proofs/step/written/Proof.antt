@@ -8,7 +8,7 @@ use Rattle.write.specs.Raw.{LetThrough, wire_of}
 use Rattle.write.specs.Size.{Size}
 use Rattle.write.specs.Wrote.{write_raw}
 use Rattle.write.proofs.Doors.{said_raw}
-use Rattle.write.proofs.Steps.{write-full, write-put}
+use Rattle.write.proofs.Steps.{write_full, write_put}
 use Rattle.write.proofs.step.written.Statement.{statement}
 use Rattle.write.proofs.step.written.Tie as tie
 
@@ -24,7 +24,7 @@ returns c =
     let said = said_raw s.args.bytes.now s.args.judged e.0.0 e.1 s.requires in
     let raw = raw_event e.0.0.delta.0 (wire_of s.args.bytes.now e.0.0.raw) in
     let long : z.raw-size.result.length ≡ length (encode_raw_event s.args.running.status raw) = ap (λ (x : Size). x.length) z.raw-size.ensures in
-    rw (c.no_room.ensures, said) (write-full s.args.running.status raw s.args.out.now s.args.at (omega (arith, long, c.before.if1.true)))
+    rw (c.no_room.ensures, said) (write_full s.args.running.status raw s.args.out.now s.args.at (omega (arith, long, c.before.if1.true)))
 
 returns-2 : tie.Need-returns-2
 returns-2 c =
@@ -35,7 +35,7 @@ returns-2 c =
     let said = said_raw s.args.bytes.now s.args.judged e.0.0 e.1 s.requires in
     let raw = raw_event e.0.0.delta.0 (wire_of s.args.bytes.now e.0.0.raw) in
     let long : z.raw-size.result.length ≡ length (encode_raw_event s.args.running.status raw) = ap (λ (x : Size). x.length) z.raw-size.ensures in
-    rw (c.no-room2.ensures, said) (write-full s.args.running.status raw s.args.out.now s.args.at (omega (arith, long, c.before.if2.true, c.before.before.if1.false)))
+    rw (c.no-room2.ensures, said) (write_full s.args.running.status raw s.args.out.now s.args.at (omega (arith, long, c.before.if2.true, c.before.before.if1.false)))
 
 put-raw-requires : tie.Need-put-raw-requires
 put-raw-requires c κs =
@@ -63,7 +63,7 @@ returns-4 c =
     let raw = raw_event e.0.0.delta.0 (wire_of s.args.bytes.now e.0.0.raw) in
     let long : z.raw-size.result.length ≡ length (encode_raw_event s.args.running.status raw) = ap (λ (x : Size). x.length) z.raw-size.ensures in
     let after : z.raw-size.result.running.status ≡ running_after raw.raw = ap (λ (x : Size). x.running) z.raw-size.ensures in
-    rw (said, long, after) (write-put s.args.running.status raw s.args.out.now s.args.at (omega (arith, long, p.if2.false, p.before.if1.false)) _ c.before.before.put-raw.ensures)
+    rw (said, long, after) (write_put s.args.running.status raw s.args.out.now s.args.at (omega (arith, long, p.if2.false, p.before.if1.false)) _ c.before.before.put-raw.ensures)
 
 pub written-spec : {M : Type 1} → statement M
 written-spec =

@@ -11,7 +11,7 @@ use Rattle.event.specs.Event.{event_of}
 use Rattle.track.specs.Cursor.{reader_of, next_of}
 use Rattle.track.specs.List.{capacity}
 use Rattle.track.proofs.Reading.{took}
-use Rattle.track.proofs.Filling.{Filling, invalid, filling-first, filled, filling-more}
+use Rattle.track.proofs.Filling.{Filling, invalid, filling_first, filled, filling_more}
 use Rattle.track.proofs.list.EventList.read.Statement.{statement}
 use Rattle.track.proofs.list.EventList.read.Tie as tie
 
@@ -26,7 +26,7 @@ loop-holds c =
     let n = c.before.before in
     let a = n.before.before.args in
     let l = n.new.result in
-    filling-first capacity (rules_of a.rules) a.raw.now a.at a.running.status l.records l.count n.new.ensures
+    filling_first capacity (rules_of a.rules) a.raw.now a.at a.running.status l.records l.count n.new.ensures
     (sym c.before.is_valid.ensures ∙ c.if1.true)
 
 -- the step that was taken
@@ -61,7 +61,7 @@ loop-again : tie.Need-loop-preserved invariant-loop decreases-loop
 loop-again c =
     let s = c.before.before.before.before.before in
     let n = s.before.before in
-    filling-more n.before.loop.invariant n.next.result n.next.ensures s.step.given.0.0 s.step.given.1 c.before.before.recorded.result c.before.before.recorded.ensures
+    filling_more n.before.loop.invariant n.next.result n.next.ensures s.step.given.0.0 s.step.given.1 c.before.before.recorded.result c.before.before.recorded.ensures
 
 returns : tie.Need-returns invariant-loop decreases-loop
 returns c =
