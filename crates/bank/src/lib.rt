@@ -1,4 +1,6 @@
 // A bank of programs: several tracks in one block, read, listed and written. Document 02, Q-3.
+#![tactic(auto)]
+
 mod blank;
 pub mod entries;
 pub mod list;

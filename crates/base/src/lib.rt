@@ -1,5 +1,7 @@
 // What every other crate speaks of: the refusals, the restricted numbers, the rules of a call, the running status and a payload's range.
 // The types stand here at the root and what they do in the modules: the prover writes out the full path of every type that a value holds.
+#![tactic(auto)]
+
 pub mod int;
 pub mod refusals;
 pub mod status;

@@ -1,4 +1,6 @@
 // Module 6 of document 01: track events, a delta and a kind.
+#![tactic(auto)]
+
 mod message;
 pub mod read;
 pub mod running;

@@ -1,4 +1,6 @@
 // Module 3 of document 01: `Format`, `Timing`, `Fps` and `SmpteTime`.
+#![tactic(auto)]
+
 pub mod field;
 pub mod format;
 pub mod rate;

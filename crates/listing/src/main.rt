@@ -1,5 +1,7 @@
 // Document 01, "Listing program", with the padding of document 02, Q-2: standard input, read leniently as one list from
 // no running status, a line for each event. With an argument standard input is a bank, document 02, Q-3.
+#![tactic(auto)]
+
 mod banks;
 mod events;
 mod kinds;

@@ -2,6 +2,8 @@
 // declares them. Each answers 0 where it accepts, else the refusal's number (document 01, "Refusal numbers"); a refusal
 // changes nothing that was lent but what its entry says. One that refuses nothing answers its value itself.
 // Those for events and lists stand in the crate `loader_track`.
+#![tactic(auto)]
+
 pub mod bends;
 pub mod fields;
 pub mod numbers;

@@ -1,5 +1,7 @@
 // The exported entries for events and lists, which C and Rust link beside those of `loader`. An event is a row of cells, a list
 // so many rows one behind the other.
+#![tactic(auto)]
+
 pub mod events;
 pub mod list_read;
 pub mod list_write;

@@ -1,4 +1,6 @@
 // Module 5 of document 01: meta messages, read. A payload is its range of the bytes lent.
+#![tactic(auto)]
+
 ghost use Rattle.std.specs.Prelude.{◌≡◌, ◌+◌, ◌^◌, ◌≤◌, ◌<◌, eqb, length};
 ghost use Rattle.smf.specs.Place.{bytes_of};
 ghost use Rattle.smf.specs.Answer.{pick, gives};

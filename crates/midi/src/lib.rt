@@ -1,4 +1,6 @@
 // Channel messages, and the bends that one of them holds.
+#![tactic(auto)]
+
 pub mod bend;
 mod lengths;
 

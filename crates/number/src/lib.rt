@@ -1,4 +1,6 @@
 // Modules 1 and 2 of document 01: variable-length numbers, and payloads, a number and that many bytes.
+#![tactic(auto)]
+
 pub mod payload;
 pub mod varlen;
 

@@ -1,5 +1,7 @@
 // An event as a row of numbers: the delta, the kind's number, six fields, the payload's start and length.
 // Rows are what the entries hand to C and take from it, and what sameness compares.
+#![tactic(auto)]
+
 pub mod back;
 pub mod lists;
 pub mod one;

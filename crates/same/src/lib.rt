@@ -1,5 +1,7 @@
 // Whether two events are the same over the bytes that each was read from.
 // Kinds are compared as rows of numbers, payloads byte by byte.
+#![tactic(auto)]
+
 ghost use Rattle.std.specs.Prelude.{◌≡◌, ◌-◌, ◌≤◌, length};
 ghost use Rattle.smf.specs.Place.{bytes_of};
 ghost use Rattle.smf.specs.Event.{map_kind, Same};

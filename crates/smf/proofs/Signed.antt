@@ -15,6 +15,7 @@ use Rattle.smf.specs.Signed.{signed_byte, byte_of_signed}
 
 -- a difference that is below 0
 pub sub_below : (a b : ℕ) → a < b → pos a -ℤ pos b ≡ negsuc (b - suc a)
+sub_below a zero h = elim h [ ]
 sub_below a (suc b) h = rw (lt-ltb a (suc b))
 
 -- a byte less 256

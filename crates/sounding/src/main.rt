@@ -1,5 +1,7 @@
 // Document 02, Q-1: standard input, read leniently from no running status, list after list, and the keys that still sound
 // where reading stopped.
+#![tactic(auto)]
+
 mod text;
 
 use crate::text::{line_end, number, word};

@@ -1,4 +1,6 @@
 // Module 7 of document 01: lists of events.
+#![tactic(auto)]
+
 pub mod cursor;
 pub mod list;
 pub mod read;

@@ -2,6 +2,8 @@
 // entries; restricted numbers and records, which are not exported, through their own functions.
 // What it must write is in the file stdout beside src/: typed from the documents, with the counts that the lines of the
 // file stdin have. How those lines are made, oracle/README.md says.
+#![tactic(auto)]
+
 mod bends;
 mod cells;
 mod examples;
