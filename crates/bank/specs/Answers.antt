@@ -8,7 +8,7 @@ use Rattle.smf.specs.Lists.{ended, ListAt, holding, ListHeld, held_as}
 use Rattle.base.specs.Refusal.{number_of}
 use Rattle.base.specs.declared.Range.{Range}
 use Rattle.meta.specs.Meta.{span_of}
-use Rattle.track.specs.Read.{list_read}
+use Rattle.track.specs.Read.{list_read_of}
 use Rattle.bank.specs.declared.Bank.{Bank}
 use Rattle.bank.specs.declared.Verdict.{Verdict}
 use Rattle.bank.specs.declared.Verdict.TheVariants as verdict
@@ -76,7 +76,7 @@ list_answer events (refuses n) = record { list = empty_list events; verdict = re
 
 -- what `list_track` answers
 abbrev pub listed_track : ListedTrack → ListAnswer
-listed_track r = record { list = list_read r.read; verdict = verdict_of r.verdict }
+listed_track r = record { list = list_read_of r.read; verdict = verdict_of r.verdict }
 
 -- what `write_bank` answers: the total
 abbrev pub bank_wrote : WroteBank → Answer ℕ

@@ -17,7 +17,7 @@ use Rattle.base.specs.declared.Refusal.{Refusal}
 use Rattle.base.specs.declared.Rules.{Rules}
 use Rattle.meta.specs.Meta.{span_of}
 use Rattle.track.specs.List.{capacity}
-use Rattle.track.specs.Read.{list_read}
+use Rattle.track.specs.Read.{list_read_of}
 use Rattle.track.specs.declared.read.ReadList.{ReadList}
 use Rattle.track.proofs.Identical.{list_read_injective}
 use Rattle.bank.specs.Bank.{most_tracks, bank_length, encode_bank, IsBank}
@@ -89,7 +89,7 @@ again block held count given bytes out room r end told =
 -- a track that is there, listed
 module _ (block : List ℕ) (index : ℕ) (rules : Rules) (r : ListedTrack)
     (told : listed_track r ≡ list_answer capacity (track_listed (rules_of rules) capacity most_tracks block index)) where
-  list_same : (span : Span) → track_at most_tracks block index ≡ gives span → (r' : ReadList) → list_read r' ≡ held_as capacity (list_at (rules_of rules) capacity 0 (bytes_of block span) 0)
+  list_same : (span : Span) → track_at most_tracks block index ≡ gives span → (r' : ReadList) → list_read_of r' ≡ held_as capacity (list_at (rules_of rules) capacity 0 (bytes_of block span) 0)
       → (r.verdict ≡ verdict.Accepted) × (r.read ≡ r')
   unfolding list_answer
   list_same span is r' told' =

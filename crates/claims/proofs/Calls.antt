@@ -25,7 +25,7 @@ use Rattle.event.specs.Event.{event_of, event_read}
 use Rattle.event.specs.declared.TrackEvent.{TrackEvent}
 use Rattle.event.specs.declared.read.ReadEvent.{ReadEvent}
 use Rattle.track.specs.List.{capacity, record_of, held_of}
-use Rattle.track.specs.Read.{list_read}
+use Rattle.track.specs.Read.{list_read_of}
 use Rattle.track.specs.declared.list.EventList.{EventList}
 use Rattle.track.specs.declared.read.ReadList.{ReadList}
 use Rattle.rows.specs.RowEvent.{row_judged}
@@ -83,7 +83,7 @@ read_event_lem Claim law κs a r e told = law (first a).now (second a) (third a)
 
 pub read_list_lem : (Claim : List ℕ → ℕ → Running → Rules → ReadList → Type 0)
     → ((raw : List ℕ) (at : ℕ) (running : Running) (rules : Rules) (r : ReadList)
-    → list_read r ≡ held_as capacity (list_at (rules_of rules) capacity running.status raw at) → Claim raw at running rules r)
+    → list_read_of r ≡ held_as capacity (list_at (rules_of rules) capacity running.status raw at) → Claim raw at running rules r)
     → EventListRead Claim
 read_list_lem Claim law κs a r e told = law (first a).now (second a) (third a) (fourth a) r told
 

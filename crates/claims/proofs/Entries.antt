@@ -40,7 +40,7 @@ headers =
     record {
       format_read = λ κs a y z d e p q. agree₂ p q;
       format_encode = λ κs a y z d e p q. agree₂ p q;
-      timing_read = λ κs a y z d e p q. agree₄ p q;
+      timing_read_lem = λ κs a y z d e p q. agree₄ p q;
       timing_encode = λ κs a y z d e p q. agree₂ p q;
     }
 
@@ -75,7 +75,7 @@ bends =
 events : EventEntries
 events =
     record {
-      event_read = λ κs a y z d e p q. agree₅ p q;
+      event_read_lem = λ κs a y z d e p q. agree₅ p q;
       event_length = λ κs a y z d e p q. agree₃ p q;
       event_write = λ κs a y z d e p q. agree₄ p q;
     }

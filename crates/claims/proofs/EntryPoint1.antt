@@ -100,7 +100,7 @@ fields =
       format_read = λ κs a r e told. keeps₁ (15 ∷ 17 ∷ []) (read_format (first a).now) (λ (n : ℕ). n) _ (format_by (first a).now) told;
       format_encode = λ κs a r e told.
           keeps₁ (15 ∷ []) (encode_format (first a)) (λ (b : List ℕ). b) _ (then_by (15 ∷ []) (to_format (first a)) _ (to_format_by (first a)) (λ _. tt)) told;
-      timing_read = λ κs a r e told.
+      timing_read_lem = λ κs a r e told.
           keeps₃ (16 ∷ 17 ∷ []) (read_timing (first a).now) ticks_of timing_rate subframe_of _ _ _ (timing_by (first a).now) told;
       timing_encode = λ κs a r e told.
           keeps₁ (16 ∷ 18 ∷ []) (and_then (timing_given (first a) (second a) (third a)) encode_timing) (λ (b : List ℕ). b) _
@@ -211,7 +211,7 @@ module _ (l : ListAt) (rows : Lent (List ℕ)) (count place after padding : Lent
 tracks : TrackRefusals
 tracks =
     record {
-      event_read = λ κs a r e told.
+      event_read_lem = λ κs a r e told.
           let rules = from_bits (fourth a) in
           rw (told.0, told.1.0, told.1.1.0, told.1.1.1.0, told.1.1.1.1)
           (event_outcome rules (first a).now (third a) (second a) (fifth a).now (event_at rules (third a) (first a).now (second a))

@@ -53,7 +53,7 @@ header =
     record {
       format_read = λ κs a. tt;
       format_encode = λ κs a. tt;
-      timing_read = λ κs a. tt;
+      timing_read_lem = λ κs a. tt;
       timing_encode = λ κs a. tt;
       fps_from_code = λ κs a. tt;
       fps_as_code = λ κs a. tt;
@@ -96,13 +96,13 @@ midi =
 meta : AnyMeta
 meta =
     record {
-      meta_read = λ κs a. tt;
+      meta_read_lem = λ κs a. tt;
     }
 
 event : AnyEvent
 event =
     record {
-      event_read = λ κs a. tt;
+      event_read_lem = λ κs a. tt;
       read_step = λ κs a. tt;
     }
 
@@ -160,7 +160,7 @@ loader =
       payload_write = λ κs a. tt;
       format_read = λ κs a. tt;
       format_encode = λ κs a. tt;
-      timing_read = λ κs a. tt;
+      timing_read_lem = λ κs a. tt;
       timing_encode = λ κs a. tt;
       fps_from_code = λ κs a. tt;
       fps_as_code = λ κs a. tt;
@@ -185,7 +185,7 @@ loader =
 loader_track : AnyLoaderTrack
 loader_track =
     record {
-      event_read = λ κs a. tt;
+      event_read_lem = λ κs a. tt;
       event_length = λ κs a. tt;
       event_write = λ κs a. tt;
       list_read = λ κs a. tt;

@@ -104,7 +104,7 @@ headers =
     record {
       format_read = λ κs a y z d e p q. format_read_injective (p ∙ sym q);
       format_encode = λ κs a y z d e p q. p ∙ sym q;
-      timing_read = λ κs a y z d e p q. timing_read_injective (p ∙ sym q);
+      timing_read_lem = λ κs a y z d e p q. timing_read_injective (p ∙ sym q);
       timing_encode = λ κs a y z d e p q. timing_encoded_injective (p ∙ sym q);
       fps_from_code = λ κs a y z d e p q. rate_of_injective (p ∙ sym q);
       fps_as_code = λ κs a y z d e p q. ap (λ (n : ℕ). record { 0 = n }) (p ∙ sym q);
@@ -147,8 +147,8 @@ events : Events
 events =
     record {
       msg_length = λ κs a y z d e p q. p ∙ sym q;
-      meta_read = λ κs a y z d e p q. meta_read_injective (p ∙ sym q);
-      event_read = λ κs a y z d e p q. event_read_injective (p ∙ sym q);
+      meta_read_lem = λ κs a y z d e p q. meta_read_injective (p ∙ sym q);
+      event_read_lem = λ κs a y z d e p q. event_read_injective (p ∙ sym q);
       event_length = λ κs a y z d e p q. length_said_injective (p ∙ sym q);
       write_event_lem = λ κs a y z d e p q. joined (wrote_event_injective (p ∙ sym q));
       row_length = λ κs a y z d e p q. length_said_injective (p ∙ sym q);

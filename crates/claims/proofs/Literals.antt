@@ -41,7 +41,7 @@ use Rattle.rows.specs.RowLists.{are_rows, rows_judged}
 use Rattle.same.specs.OfRows.{lists_asked, Says}
 use Rattle.same.specs.declared.of_rows.Sameness.{Sameness}
 use Rattle.same.specs.declared.of_rows.Sameness.TheVariants as sameness
-use Rattle.track.specs.Read.{list_read}
+use Rattle.track.specs.Read.{list_read_of}
 use Rattle.track.specs.declared.read.ReadList.{ReadList}
 use Rattle.rows.specs.RowEvent.{is_row, event_of_row}
 use Rattle.claims.specs.Table.{among}
@@ -165,10 +165,10 @@ held l most es told few =
     let whole : length (es ++ replicate (most - length es) past_count) ≡ most = omega (arith, length-append es (replicate (most - length es) past_count), length-replicate (most - length es) past_count) in
     rw told (whole, drop-append_seam es (replicate (most - length es) past_count))
 
-list_said : (raw : List ℕ) (at : ℕ) (running : Running) (rules : base.Rules) (r : ReadList) → list_read r ≡ held_as 128 (list_at (rules_of rules) 128 running.status raw at)
-    → (length (list_read r).list.records ≡ 128) × (drop (list_read r).list.count (list_read r).list.records ≡ replicate (128 - (list_read r).list.count) past_count)
+list_said : (raw : List ℕ) (at : ℕ) (running : Running) (rules : base.Rules) (r : ReadList) → list_read_of r ≡ held_as 128 (list_at (rules_of rules) 128 running.status raw at)
+    → (length (list_read_of r).list.records ≡ 128) × (drop (list_read_of r).list.count (list_read_of r).list.records ≡ replicate (128 - (list_read_of r).list.count) past_count)
 list_said raw at running rules r told =
-    held (list_read r) 128 (list_at (rules_of rules) 128 running.status raw at).events (ap (λ (l : ListHeld). l.list) told)
+    held (list_read_of r) 128 (list_at (rules_of rules) 128 running.status raw at).events (ap (λ (l : ListHeld). l.list) told)
     (list-stands (rules_of rules) raw at 128 running.status).few
 
 -- The limit of a payload

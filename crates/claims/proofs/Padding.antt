@@ -136,11 +136,11 @@ number_written rules v out at n w told e raw at' rest q =
 
 module _ (rules : Rules) (running : ℕ) (j : Answer (Event (List ℕ))) (numbered : By of_legality j) (legal : (e : Event (List ℕ)) → j ≡ gives e → is_legal rules e ≡ true)
     (out : List ℕ) (at n : ℕ) (h : (write_event running j out at).written.answer ≡ gives n) where
-  event_written : (rules' : Rules) → strict_of rules' ≡ strict_of rules → (raw : List ℕ) (at' : ℕ) (rest : List ℕ)
+  event_written_lem : (rules' : Rules) → strict_of rules' ≡ strict_of rules → (raw : List ℕ) (at' : ℕ) (rest : List ℕ)
       → drop at' raw ≡ between at n (write_event running j out at).written.buffer ++ rest
       → (a : EventAt) × (event_at rules' running raw at' ≡ reads_at a) × (a.padding ≡ 0)
   unfolding event_at placed
-  event_written rules' alike raw at' rest q =
+  event_written_lem rules' alike raw at' rest q =
       let a = event_wrote running j numbered out at n h in
       let e = a.event in
       let bs = encode_event running e in
@@ -185,7 +185,7 @@ event_unpadded κs a r e told n h κs' a' r' e' told' rest q same alike =
     let bytes = (fourth a).now in
     let own = event_of (first a) in
     let end = sym (event_end r (fifth e).now) ∙ ap (λ (x : EventWritten). x.written.buffer) told in
-    let w = event_written rules (second a).status (legal rules bytes own) (legal_by rules bytes own) (λ x g. (given_itself rules bytes own x g).1)
+    let w = event_written_lem rules (second a).status (legal rules bytes own) (legal_by rules bytes own) (λ x g. (given_itself rules bytes own x g).1)
     (fifth a).now (sixth a) n (sym (ap (λ (x : EventWritten). x.written.answer) told) ∙ h) (rules_of (fourth a')) alike (first a').now (second a') rest (rw end at q)
     in
     (w.0, rw same at told' ∙ w.1, w.2)
@@ -269,7 +269,7 @@ entry_event_unpadded κs a r e told z κs' a' r' e' told' rest q same alike =
     let rules = from_bits (fourth a) in
     let payload = (second a).now in
     let row = (first a).now in
-    let w = event_written rules (third a) (row_judged rules payload row) (row_by rules payload row) (λ x g. (row_itself rules payload row x g).1)
+    let w = event_written_lem rules (third a) (row_judged rules payload row) (row_by rules payload row) (λ x g. (row_itself rules payload row x g).1)
     (fifth a).now (sixth a) _ (put_answer rules (third a) payload row (fifth a).now (sixth a) (seventh a).now told z)
     (from_bits (fourth a')) alike (first a').now (second a') rest (rw told.1.0 at q)
     in

@@ -20,7 +20,7 @@ use Rattle.event.specs.Event.{event_of}
 use Rattle.rows.specs.RowEvent.{row_judged}
 use Rattle.rows.specs.RowLists.{rows_judged}
 use Rattle.track.specs.List.{capacity, record_of}
-use Rattle.track.specs.Read.{list_read}
+use Rattle.track.specs.Read.{list_read_of}
 use Rattle.track.specs.declared.read.ReadList.{ReadList}
 use Rattle.player.specs.Widths.{accepted}
 use Rattle.player.specs.Sounding.{silence}
@@ -86,7 +86,7 @@ numbered =
       u24_try_from = λ κs a z e told. of (18 ∷ []) told (width_by 24 _);
       u28_try_from = λ κs a z e told. of (18 ∷ []) told (width_by 28 _);
       format_read = λ κs a z e told. of (15 ∷ 17 ∷ []) told (format_by (first a).now);
-      timing_read = λ κs a z e told. of (16 ∷ 17 ∷ []) told (timing_by (first a).now);
+      timing_read_lem = λ κs a z e told. of (16 ∷ 17 ∷ []) told (timing_by (first a).now);
       timing_encode = λ κs a z e told. of (18 ∷ []) told (timing_bytes_by (timing_of (first a)));
       fps_from_int = λ κs a z e told. of (16 ∷ []) told (rate_by (first a));
       smpte_new = λ κs a z e told. of (13 ∷ []) told (time_by _ _);
@@ -101,8 +101,8 @@ numbered =
       row_length = λ κs a z e told. of of_length told (event_length_by _ _ (row_by _ _ _));
     }
 
-list_said : (raw : List ℕ) (at : ℕ) (running : Running) (rules : Rules) (r : ReadList) → list_read r ≡ held_as capacity (list_at (rules_of rules) capacity running.status raw at)
-    → (l : ListAt) × (list_read r ≡ held_as capacity l) × ListStands (rules_of rules) raw capacity running.status at l
+list_said : (raw : List ℕ) (at : ℕ) (running : Running) (rules : Rules) (r : ReadList) → list_read_of r ≡ held_as capacity (list_at (rules_of rules) capacity running.status raw at)
+    → (l : ListAt) × (list_read_of r ≡ held_as capacity l) × ListStands (rules_of rules) raw capacity running.status at l
 list_said raw at running rules r told =
     (list_at (rules_of rules) capacity running.status raw at, told, list-stands (rules_of rules) raw at capacity running.status)
 

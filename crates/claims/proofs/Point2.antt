@@ -27,7 +27,7 @@ use Rattle.number.specs.declared.varlen.ReadNumber.{ReadNumber}
 use Rattle.event.specs.Event.{event_of}
 use Rattle.event.specs.declared.TrackEvent.{TrackEvent}
 use Rattle.track.specs.List.{capacity}
-use Rattle.track.specs.Read.{list_read}
+use Rattle.track.specs.Read.{list_read_of}
 use Rattle.track.specs.declared.read.ReadList.{ReadList}
 use Rattle.write.specs.Wrote.{wrote_event}
 use Rattle.write.specs.declared.answer.WroteEvent.{WroteEvent}
@@ -74,22 +74,22 @@ kinds s t same = note (ap (λ (e : Event (List ℕ)). e.kind) same) where
   note : ◌≡◌ {A = Kind (List ℕ)} (midi 0 (note_on 60 64)) (meta (tempo 500000)) → ⊥
   note e = let z : ◌≡◌ {A = ℕ} 0 1 = cc in omega arith
 
-first_is : (r : ReadList) (e : Event Span) (es : List (Event Span)) (place running : ℕ) → list_read r ≡ held_as capacity (whole (e ∷ es) place running) → nth r 0 ≡ e
+first_is : (r : ReadList) (e : Event Span) (es : List (Event Span)) (place running : ℕ) → list_read_of r ≡ held_as capacity (whole (e ∷ es) place running) → nth r 0 ≡ e
 unfolding holding
 first_is r e es place running h = ap (λ (l : ListHeld). get_or l.list.records 0 filler) h
 
-second_is : (r : ReadList) (d e : Event Span) (es : List (Event Span)) (place running : ℕ) → list_read r ≡ held_as capacity (whole (d ∷ e ∷ es) place running) → nth r 1 ≡ e
+second_is : (r : ReadList) (d e : Event Span) (es : List (Event Span)) (place running : ℕ) → list_read_of r ≡ held_as capacity (whole (d ∷ e ∷ es) place running) → nth r 1 ≡ e
 unfolding holding
 second_is r d e es place running h = ap (λ (l : ListHeld). get_or l.list.records 1 filler) h
 
-count_is : (r : ReadList) (es : List (Event Span)) (place running : ℕ) → list_read r ≡ held_as capacity (whole es place running) → (list_read r).list.count ≡ length es
+count_is : (r : ReadList) (es : List (Event Span)) (place running : ℕ) → list_read_of r ≡ held_as capacity (whole es place running) → (list_read_of r).list.count ≡ length es
 unfolding holding
 count_is r es place running h = ap (λ (l : ListHeld). l.list.count) h
 
-two : (raw : List ℕ) (at : ℕ) (running : Running) (rules : base.Rules) (r : ReadList) → list_read r ≡ held_as capacity (list_at (rules_of rules) capacity running.status raw at)
+two : (raw : List ℕ) (at : ℕ) (running : Running) (rules : base.Rules) (r : ReadList) → list_read_of r ≡ held_as capacity (list_at (rules_of rules) capacity running.status raw at)
     → raw ≡ p1 ++ p2 → at ≡ 0 → running.status ≡ 0 → TwoEvents raw r
 two raw at running rules r told q z none =
-    let h : list_read r ≡ held_as capacity (whole (struck ∷ released ∷ []) 7 0x90) = rw (q, z, none, two_read (rules_of rules)) at told in
+    let h : list_read_of r ≡ held_as capacity (whole (struck ∷ released ∷ []) 7 0x90) = rw (q, z, none, two_read (rules_of rules)) at told in
     let first = first_is r struck (released ∷ []) 7 0x90 h in
     let second = second_is r struck released [] 7 0x90 h in
     record {
@@ -101,16 +101,16 @@ two raw at running rules r told q z none =
     }
 
 other : (raw : List ℕ) (r : ReadList) → nth r 0 ≡ struck
-    → (raw' : List ℕ) (at : ℕ) (running : Running) (rules : base.Rules) (r' : ReadList) → list_read r' ≡ held_as capacity (list_at (rules_of rules) capacity running.status raw' at)
+    → (raw' : List ℕ) (at : ℕ) (running : Running) (rules : base.Rules) (r' : ReadList) → list_read_of r' ≡ held_as capacity (list_at (rules_of rules) capacity running.status raw' at)
     → OtherEvent raw r raw' at running rules r'
 other raw r first raw' at running rules r' told q z none =
-    let h : list_read r' ≡ held_as capacity (whole (slow ∷ []) 7 0) = rw (q, z, none, tempo_read (rules_of rules)) at told in
+    let h : list_read_of r' ≡ held_as capacity (whole (slow ∷ []) 7 0) = rw (q, z, none, tempo_read (rules_of rules)) at told in
     (count_is r' (slow ∷ []) 7 0 h, (λ same. kinds raw raw' (rw (first, first_is r' slow [] 7 0 h) at same)))
 
-one : (raw : List ℕ) (at : ℕ) (running : Running) (rules : base.Rules) (r : ReadList) → list_read r ≡ held_as capacity (list_at (rules_of rules) capacity running.status raw at)
-    → raw ≡ p1 → at ≡ 0 → running.status ≡ 0 → ((list_read r).list.count ≡ 1) × EventListRead (OtherEvent raw r)
+one : (raw : List ℕ) (at : ℕ) (running : Running) (rules : base.Rules) (r : ReadList) → list_read_of r ≡ held_as capacity (list_at (rules_of rules) capacity running.status raw at)
+    → raw ≡ p1 → at ≡ 0 → running.status ≡ 0 → ((list_read_of r).list.count ≡ 1) × EventListRead (OtherEvent raw r)
 one raw at running rules r told q z none =
-    let h : list_read r ≡ held_as capacity (whole (struck ∷ []) 4 0x90) = rw (q, z, none, one_read (rules_of rules)) at told in
+    let h : list_read_of r ≡ held_as capacity (whole (struck ∷ []) 4 0x90) = rw (q, z, none, one_read (rules_of rules)) at told in
     (count_is r (struck ∷ []) 4 0x90 h, calls.read_list_lem (OtherEvent raw r) (other raw r (first_is r struck [] 4 0x90 h)))
 
 -- a legal event that has room

@@ -22,7 +22,7 @@ use Rattle.base.specs.declared.Running.{Running}
 use Rattle.event.specs.Event.{event_of}
 use Rattle.event.specs.declared.TrackEvent.{TrackEvent}
 use Rattle.track.specs.List.{capacity, record_of}
-use Rattle.track.specs.Read.{list_read}
+use Rattle.track.specs.Read.{list_read_of}
 use Rattle.track.specs.declared.list.EventList.{EventList}
 use Rattle.rows.specs.RowLists.{rows_judged}
 use Rattle.write.specs.Wrote.{wrote_event}
@@ -128,7 +128,7 @@ again : (list : EventList) (running : Running) (rules : base.Rules) (bytes out :
 again list running rules bytes out w told n e full =
     calls.read_list_lem (ReadAgain list running rules bytes w n) (λ raw at running' rules' r told' q z same strict.
     let full' : length (map record_of list.records) ≡ capacity = length-map list.records record_of ∙ full in
-    back (rules_of rules) (rules_of rules') running.status bytes (map record_of list.records) list.count out n at w raw (list_read r)
+    back (rules_of rules) (rules_of rules') running.status bytes (map record_of list.records) list.count out n at w raw (list_read_of r)
     told e full' (rw same at told') q z strict)
 
 never : (e : TrackEvent) (running : Running) (rules : base.Rules) (bytes out : List ℕ) (at : ℕ) (r : WroteEvent) (end : List ℕ)

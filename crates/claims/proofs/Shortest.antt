@@ -13,7 +13,7 @@ use Rattle.smf.specs.Payload.{payload_after, read_payload, encode_payload}
 use Rattle.smf.specs.Wire.{taken, read_status, read_body, after_delta, read_raw, encode_raw, encode_raw_event}
 use Rattle.smf.specs.Kind.{sys_ex, called, raw_of}
 use Rattle.smf.specs.Event.{event, map_kind, map_event, named, name_raw, read_event, placed, event_at, EventAt, reads_at, legal, encode_event, write_event, Same}
-use Rattle.smf.proofs.Event.{event_read, Reached, EventReached, event_reached, legal_exactly}
+use Rattle.smf.proofs.Event.{event_read_lem, Reached, EventReached, event_reached, legal_exactly}
 use Rattle.base.specs.Rules.{rules_of}
 use Rattle.base.specs.declared.Rules as base
 use Rattle.base.specs.declared.Running.{Running}
@@ -44,7 +44,7 @@ used : (rules : Rules) (running : ℕ) (raw : List ℕ) (at : ℕ) (a : EventAt)
     → length (encode_event running (map_event (bytes_of raw) a.event)) ≤ a.used
 used rules running raw at a strict e =
     let r : Reached rules running raw at a = subst (EventReached rules running raw at) e (event_reached rules running raw at) in
-    let few = (event_read rules running (drop at raw) (taken (map_event (bytes_of raw) a.event) (drop (at + a.used) raw) a.running a.padding) r.read).shortest strict in
+    let few = (event_read_lem rules running (drop at raw) (taken (map_event (bytes_of raw) a.event) (drop (at + a.used) raw) a.running a.padding) r.read).shortest strict in
     omega (arith, few, r.within, length-drop at raw, length-drop (at + a.used) raw)
 
 pub shortest : Shortest

@@ -23,7 +23,7 @@ use Rattle.smf.specs.Kind as kind
 use Rattle.smf.specs.Kind.{Message, Meta, Kind, raw_message, raw_meta, raw_of}
 use Rattle.smf.specs.Event.{Event, message_fits, meta_fits, kind_fits, carries, meta_carries, kind_load, kind_misnamed, is_named, legal, encode_event, EventWritten, event_written, write_judged, write_event, event, map_kind, span_before, event_at, reads_at}
 use Rattle.smf.proofs.Legal.{is_legal}
-use Rattle.smf.proofs.Event.{is_legal_lem, event_read, legal_exactly}
+use Rattle.smf.proofs.Event.{is_legal_lem, event_read_lem, legal_exactly}
 use Rattle.smf.proofs.Answer.{by-test, by_answer, by-lt, both, given, pick_test}
 use Rattle.smf.proofs.Number.{encode_is_number, encode_value, shortest}
 use Rattle.smf.proofs.Write.{number_bytes_wide, number_bytes_lem, part_outside, part_long, part_bytes}
@@ -209,7 +209,7 @@ payload_fewest p others f =
 event_fewest : (running : ℕ) (e : Event (List ℕ)) (after : ℕ) (others : List ℕ) → is_running running ≡ true → EventForm running e after others
     → length (encode_event running e) ≤ length others
 event_fewest running e after others is f =
-    let few = (event_read strictest running (others ++ []) (taken e [] after (event_padding f)) (reads.event_read strictest running e after others [] is f)).shortest refl in
+    let few = (event_read_lem strictest running (others ++ []) (taken e [] after (event_padding f)) (reads.event_read_lem strictest running e after others [] is f)).shortest refl in
     omega (arith, few, length-append others [])
 
 -- What stands in the buffer behind an accepted write
@@ -388,10 +388,10 @@ smf_forms =
       number_written = calls.write_varlen _ number_said;
       payload_read = calls.read_varlen_slice _ payload_read_said;
       payload_written = calls.write_varlen_slice _ payload_said;
-      event_read = calls.read_event_lem _ event_read_said;
-      event_written = calls.write_event_lem _ event_said;
+      event_read_lem = calls.read_event_lem _ event_read_said;
+      event_written_lem = calls.write_event_lem _ event_said;
       format_read = λ κs a r e told f high low more h q. told ∙ ap read_format q ∙ format_is f high low more h;
       format_written = λ κs a r e told. let o = format_own a.0 in (o.0, o.1, o.2, told ∙ o.3);
-      timing_read = λ κs a r e told t high low more h q. told ∙ ap read_timing q ∙ timing_is t high low more h;
+      timing_read_lem = λ κs a r e told t high low more h q. told ∙ ap read_timing q ∙ timing_is t high low more h;
       timing_written = λ κs a r e told bytes h. timing_own (timing_of a.0) bytes (sym told ∙ h);
     }

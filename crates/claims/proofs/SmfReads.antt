@@ -157,20 +157,20 @@ module _ (rules : Rules) where
   unnamed_read _ _ p e (form.smpte {n} h) = rw (e, lt-leb 5 n h)
   unnamed_read _ _ p e (form.signature {n} h) = rw (e, lt-leb 4 n h)
 
-  meta_read : (m : Meta (List ℕ)) (t : ℕ) (p : List ℕ) → MetaForm m t p → called_meta rules t p ≡ gives m
+  meta_read_lem : (m : Meta (List ℕ)) (t : ℕ) (p : List ℕ) → MetaForm m t p → called_meta rules t p ≡ gives m
   unfolding called_meta is_text track_number_of narrow
-  meta_read _ _ _ (form.sequence_number {high} {low} h l) = rw (own high h, own low l)
-  meta_read _ _ _ form.no_number = refl
-  meta_read _ _ _ (form.text {t} {p} l h) = rw (ne_eqb t 0 (omega arith), le-leb 1 t l, le-leb t 9 h)
-  meta_read _ _ _ (form.channel_prefix {c} h) = rw (own c (omega arith), lt-ltb c 16 h)
-  meta_read _ _ _ (form.port {c} h) = rw (own c (omega arith), lt-ltb c 128 h)
-  meta_read _ _ _ form.end_of_track = refl
-  meta_read _ _ _ (form.tempo {a} {b} {c} f g h) = rw (own a f, own b g, own c h)
-  meta_read _ _ _ (form.smpte_offset {code} {rate} {hour} {minute} {second} {frame} {subframe} r h m s f u) = rw (time_read code rate hour minute second frame subframe r h m s f u)
-  meta_read _ _ _ (form.time_signature {a} {b} {c} {d} f g h k) = rw (own a f, own b g, own c h, own d k)
-  meta_read _ _ _ (form.key_signature {z} {minor} {a} {b} k m) = rw (key_read z a k, mode_read minor b m)
-  meta_read _ _ _ form.sequencer_specific = refl
-  meta_read _ _ _ (form.unknown {t} {p} u) = unnamed_read t (length p) p refl u
+  meta_read_lem _ _ _ (form.sequence_number {high} {low} h l) = rw (own high h, own low l)
+  meta_read_lem _ _ _ form.no_number = refl
+  meta_read_lem _ _ _ (form.text {t} {p} l h) = rw (ne_eqb t 0 (omega arith), le-leb 1 t l, le-leb t 9 h)
+  meta_read_lem _ _ _ (form.channel_prefix {c} h) = rw (own c (omega arith), lt-ltb c 16 h)
+  meta_read_lem _ _ _ (form.port {c} h) = rw (own c (omega arith), lt-ltb c 128 h)
+  meta_read_lem _ _ _ form.end_of_track = refl
+  meta_read_lem _ _ _ (form.tempo {a} {b} {c} f g h) = rw (own a f, own b g, own c h)
+  meta_read_lem _ _ _ (form.smpte_offset {code} {rate} {hour} {minute} {second} {frame} {subframe} r h m s f u) = rw (time_read code rate hour minute second frame subframe r h m s f u)
+  meta_read_lem _ _ _ (form.time_signature {a} {b} {c} {d} f g h k) = rw (own a f, own b g, own c h, own d k)
+  meta_read_lem _ _ _ (form.key_signature {z} {minor} {a} {b} k m) = rw (key_read z a k, mode_read minor b m)
+  meta_read_lem _ _ _ form.sequencer_specific = refl
+  meta_read_lem _ _ _ (form.unknown {t} {p} u) = unnamed_read t (length p) p refl u
 
   -- Events
 
@@ -185,12 +185,12 @@ module _ (rules : Rules) where
       rw (r.runs rest, add-zero) (r.reads_as rest)
   body_read running delta _ _ _ rest (form.sys_ex {p} {s} f) = rw (payload_read p s rest f)
   body_read running delta _ _ _ rest (form.escape {p} {s} f) = rw (payload_read p s rest f)
-  body_read running delta _ _ _ rest (form.meta {m} {t} {p} {s} n f) = rw (payload_read p s rest f, meta_read m t p n)
+  body_read running delta _ _ _ rest (form.meta {m} {t} {p} {s} n f) = rw (payload_read p s rest f, meta_read_lem m t p n)
 
-  pub event_read : (running : ℕ) (e : Event (List ℕ)) (after : ℕ) (s rest : List ℕ) → is_running running ≡ true → (f : EventForm running e after s)
+  pub event_read_lem : (running : ℕ) (e : Event (List ℕ)) (after : ℕ) (s rest : List ℕ) → is_running running ≡ true → (f : EventForm running e after s)
       → read_event rules running (s ++ rest) ≡ reads (taken e rest after (event_padding f))
   unfolding read_event read_raw after_delta
-  event_read running e after s rest is f =
+  event_read_lem running e after s rest is f =
       let behind = f.body ++ rest in
       let delta : Delta = record { value = e.delta; padding = beyond_fewest (length f.delta) e.delta } in
       rw (f.whole, is, append_assoc, number_read e.delta f.delta behind f.ticks, number_padded e.delta f.delta behind, body_read running delta e.kind f.body after rest f.stands)
@@ -201,4 +201,4 @@ module _ (rules : Rules) where
   unfolding event_at placed map_event
   event_at_lem running e after raw at s rest is f q =
       let n : length (drop at raw) - length rest ≡ length s = omega (arith, ap length q, length-append s rest) in
-      rw (q, event_read running e after s rest is f, n)
+      rw (q, event_read_lem running e after s rest is f, n)

@@ -18,7 +18,7 @@ use Rattle.smf.proofs.Lists.{list_read}
 use Rattle.smf.proofs.Answer.{by-test, by_answer, both}
 use Rattle.base.specs.Rules.{rules_of}
 use Rattle.track.specs.List.{capacity, record_of, held_of}
-use Rattle.track.specs.Read.{list_read}
+use Rattle.track.specs.Read.{list_read_of}
 use Rattle.track.specs.declared.list.EventList.{EventList}
 use Rattle.track.specs.declared.read.ReadList.{ReadList}
 use Rattle.rows.specs.RowLists.{called_rows}
@@ -215,7 +215,7 @@ module _ (table : Table) (channel key : ℕ) (list : EventList) (number : ℕ) (
       t.1 ∙ ap (table_after table) events ∙ silence_fresh capacity table (rw (counts_sum whole) at few)
 
 -- a list as it was read
-module _ (rules : Rules) (running : ℕ) (raw : List ℕ) (at : ℕ) (r : ReadList) (told : list_read r ≡ held_as capacity (list_at rules capacity running raw at)) where
+module _ (rules : Rules) (running : ℕ) (raw : List ℕ) (at : ℕ) (r : ReadList) (told : list_read_of r ≡ held_as capacity (list_at rules capacity running raw at)) where
   read_took : (table left : Table) (number : ℕ) → AfterTold table r.list left number → number ≡ 0
   unfolding list_at
   read_took table left number told' =

@@ -28,7 +28,7 @@ pub record HeaderEntries : Type 0 where
       (format_read_entry (λ bytes format r. r & format.after))
   pub format_encode : OneOutcome loader.fields.apk_format_encode.Reads.Learnt
       (format_encode_entry (λ format bytes r. r & bytes.after))
-  pub timing_read : OneOutcome loader.fields.apk_timing_read.Reads.Learnt
+  pub timing_read_lem : OneOutcome loader.fields.apk_timing_read.Reads.Learnt
       (timing_read_entry (λ bytes ticks rate subframe r. r & ticks.after & rate.after & subframe.after))
   pub timing_encode : OneOutcome loader.fields.apk_timing_encode.Reads.Learnt
       (timing_encode_entry (λ ticks rate subframe bytes r. r & bytes.after))
@@ -69,7 +69,7 @@ pub record BendEntries : Type 0 where
 
 -- `loader_track`: one event
 pub record EventEntries : Type 0 where
-  pub event_read : OneOutcome loader_track.events.apk_event_read.Reads.Learnt
+  pub event_read_lem : OneOutcome loader_track.events.apk_event_read.Reads.Learnt
       (event_read_entry (λ bytes at running bits row used after padding r. r & row.after & used.after & after.after & padding.after))
   pub event_length : OneOutcome loader_track.events.apk_event_length.Reads.Learnt
       (event_length_entry (λ row payload running bits length after r. r & length.after & after.after))

@@ -39,7 +39,7 @@ pub record NumberRefusals : Type 0 where
 pub record FieldRefusals : Type 0 where
   pub format_read : Always loader.fields.apk_format_read.Reads.Learnt (format_read_entry (λ bytes format r. AnswersBy (15 ∷ 17 ∷ []) r (Unchanged format)))
   pub format_encode : Always loader.fields.apk_format_encode.Reads.Learnt (format_encode_entry (λ format bytes r. AnswersBy (15 ∷ []) r (Unchanged bytes)))
-  pub timing_read : Always loader.fields.apk_timing_read.Reads.Learnt (timing_read_entry (λ bytes ticks rate subframe r.
+  pub timing_read_lem : Always loader.fields.apk_timing_read.Reads.Learnt (timing_read_entry (λ bytes ticks rate subframe r.
       AnswersBy (16 ∷ 17 ∷ []) r (Unchanged ticks × Unchanged rate × Unchanged subframe)))
   pub timing_encode : Always loader.fields.apk_timing_encode.Reads.Learnt (timing_encode_entry (λ ticks rate subframe bytes r.
       AnswersBy (16 ∷ 18 ∷ []) r (Unchanged bytes)))
@@ -84,7 +84,7 @@ pub record ListTold (l : ListAt) (rows : Lent (List ℕ)) (count place after pad
 
 pub record TrackRefusals : Type 0 where
   -- one event, read: a refusal is one of 1 to 14, leaves the row, uses no byte, says the running status that document 01 names, and has no padding
-  pub event_read : Always loader_track.events.apk_event_read.Reads.Learnt (event_read_entry (λ bytes at running bits row used after padding r.
+  pub event_read_lem : Always loader_track.events.apk_event_read.Reads.Learnt (event_read_entry (λ bytes at running bits row used after padding r.
       Outcome (of_event (from_bits bits).strict) r ((0 < used.after) × (at + used.after ≤ length bytes))
       (Unchanged row × (used.after ≡ 0) × (after.after ≡ status_left running (read_number (from_bits bits) (drop at bytes)) r) × (padding.after ≡ 0))))
   -- a list, read: 0 at the end, 255 full, else a refusal, which is one of 1 to 14, or 20 where the cells are too few

@@ -68,7 +68,7 @@ pub record AnyNumber : Type 0 where
 pub record AnyHeader : Type 0 where
   pub format_read : Any header.format.Format.read.Reads.Asked
   pub format_encode : Any header.format.Format.encode.Reads.Asked
-  pub timing_read : Any header.timing.Timing.read.Reads.Asked
+  pub timing_read_lem : Any header.timing.Timing.read.Reads.Asked
   pub timing_encode : Any header.timing.Timing.encode.Reads.Asked
   pub fps_from_code : Any header.Fps.from_code.Reads.Asked
   pub fps_as_code : Any header.Fps.as_code.Reads.Asked
@@ -107,11 +107,11 @@ pub record AnyMidi : Type 0 where
 
 -- `meta`: meta messages
 pub record AnyMeta : Type 0 where
-  pub meta_read : Any meta.MetaMessage.read.Reads.Asked
+  pub meta_read_lem : Any meta.MetaMessage.read.Reads.Asked
 
 -- `event`: one event, read
 pub record AnyEvent : Type 0 where
-  pub event_read : Any event.TrackEvent.read.Reads.Asked
+  pub event_read_lem : Any event.TrackEvent.read.Reads.Asked
   pub read_step : Any event.running.read_step.Reads.Asked
 
 -- `track`: lists of records
@@ -159,7 +159,7 @@ pub record AnyLoader : Type 0 where
   pub payload_write : Any loader.numbers.apk_payload_write.Reads.Asked
   pub format_read : Any loader.fields.apk_format_read.Reads.Asked
   pub format_encode : Any loader.fields.apk_format_encode.Reads.Asked
-  pub timing_read : Any loader.fields.apk_timing_read.Reads.Asked
+  pub timing_read_lem : Any loader.fields.apk_timing_read.Reads.Asked
   pub timing_encode : Any loader.fields.apk_timing_encode.Reads.Asked
   pub fps_from_code : Any loader.smpte.apk_fps_from_code.Reads.Asked
   pub fps_as_code : Any loader.smpte.apk_fps_as_code.Reads.Asked
@@ -182,7 +182,7 @@ pub record AnyLoader : Type 0 where
 
 -- `loader_track`: the entries for events and lists
 pub record AnyLoaderTrack : Type 0 where
-  pub event_read : Any loader_track.events.apk_event_read.Reads.Asked
+  pub event_read_lem : Any loader_track.events.apk_event_read.Reads.Asked
   pub event_length : Any loader_track.events.apk_event_length.Reads.Asked
   pub event_write : Any loader_track.events.apk_event_write.Reads.Asked
   pub list_read : Any loader_track.list_read.apk_list_read.Reads.Asked

@@ -58,7 +58,7 @@ pub record Numbers : Type 0 where
 pub record Headers : Type 0 where
   pub format_read : OneAnswer header.format.Format.read.Reads.Learnt
   pub format_encode : OneAnswer header.format.Format.encode.Reads.Learnt
-  pub timing_read : OneAnswer header.timing.Timing.read.Reads.Learnt
+  pub timing_read_lem : OneAnswer header.timing.Timing.read.Reads.Learnt
   pub timing_encode : OneAnswer header.timing.Timing.encode.Reads.Learnt
   pub fps_from_code : OneAnswer header.Fps.from_code.Reads.Learnt
   pub fps_as_code : OneAnswer header.Fps.as_code.Reads.Learnt
@@ -97,8 +97,8 @@ pub record Bends : Type 0 where
 -- `midi`, `meta`, `event`, `write`: one event, read; and one event or row, measured and written
 pub record Events : Type 0 where
   pub msg_length : OneAnswer midi.MidiMessage.msg_length.Reads.Learnt
-  pub meta_read : OneAnswer meta.MetaMessage.read.Reads.Learnt
-  pub event_read : OneAnswer event.TrackEvent.read.Reads.Learnt
+  pub meta_read_lem : OneAnswer meta.MetaMessage.read.Reads.Learnt
+  pub event_read_lem : OneAnswer event.TrackEvent.read.Reads.Learnt
   pub event_length : OneAnswer write.one.event_length.Reads.Learnt
   pub write_event_lem : OneOutcome write.one.write_event.Reads.Learnt (write_event_call (λ event running rules bytes out at r end. r & end))
   pub row_length : OneAnswer write.one.row_length.Reads.Learnt

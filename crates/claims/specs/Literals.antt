@@ -27,7 +27,7 @@ use Rattle.event.specs.Lent.{Leaves}
 use Rattle.event.specs.declared.read.ReadEvent.{ReadEvent}
 use Rattle.event.proofs as events
 use Rattle.track.specs.List.{record_of, held_of}
-use Rattle.track.specs.Read.{list_read}
+use Rattle.track.specs.Read.{list_read_of}
 use Rattle.track.proofs as track
 use Rattle.rows.specs.RowAnswer.{row_answer}
 use Rattle.rows.specs.RowLists.{are_rows, rows_judged}
@@ -107,8 +107,8 @@ pub record Records : Type 0 where
   -- a list has 128 records, and behind its count nothing but fillers
   pub list_new : Answers track.list.EventList.new.Reads.Learnt (λ κs z. held_of z) (λ κs a. record { records = replicate 128 past_count; count = 0 })
   pub list_read : EventListRead (λ raw at running rules r.
-      (length (list_read r).list.records ≡ 128)
-      × (drop (list_read r).list.count (list_read r).list.records ≡ replicate (128 - (list_read r).list.count) past_count))
+      (length (list_read_of r).list.records ≡ 128)
+      × (drop (list_read_of r).list.count (list_read_of r).list.records ≡ replicate (128 - (list_read_of r).list.count) past_count))
   -- 22: a payload inside its bytes is refused by it exactly above 268,435,455 bytes
   pub limit : WriteVarlenSlice (λ bytes slice out at r end. slice.start + slice.length ≤ length bytes
       → (268435455 < slice.length → (written_to r ≡ refuses 22) × (end ≡ out)) × (slice.length ≤ 268435455 → written_to r ≡ refuses 22 → ⊥))

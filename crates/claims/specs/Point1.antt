@@ -21,7 +21,7 @@ use Rattle.midi.proofs as midi
 use Rattle.meta.specs.Meta.{meta_read}
 use Rattle.event.specs.Event.{event_of, event_read}
 use Rattle.track.specs.List.{capacity, record_of, held_of}
-use Rattle.track.specs.Read.{list_read}
+use Rattle.track.specs.Read.{list_read_of}
 use Rattle.rows.specs.RowLists.{rows_judged}
 use Rattle.write.specs.Size.{length_said}
 use Rattle.write.specs.Wrote.{wrote_event}
@@ -51,7 +51,7 @@ pub record Numbered : Type 0 where
   pub u28_try_from : Refuses number.u28.try_from.Reads.Learnt (λ κs. tried_u28) (18 ∷ [])
   -- 17: a header field under two bytes; 15: a format above 2; 16: no such rate; 18: ticks above their width
   pub format_read : Refuses header.format.Format.read.Reads.Learnt (λ κs. format_read_of) (15 ∷ 17 ∷ [])
-  pub timing_read : Refuses header.timing.Timing.read.Reads.Learnt (λ κs. timing_read) (16 ∷ 17 ∷ [])
+  pub timing_read_lem : Refuses header.timing.Timing.read.Reads.Learnt (λ κs. timing_read) (16 ∷ 17 ∷ [])
   pub timing_encode : Refuses header.timing.Timing.encode.Reads.Learnt (λ κs. timing_encoded) (18 ∷ [])
   pub fps_from_int : Refuses header.Fps.from_int.Reads.Learnt (λ κs. tried_fps) (16 ∷ [])
   -- 13: an SMPTE time outside its ranges; 18 where it is written
@@ -83,7 +83,7 @@ pub record Point1 : Type 0 where
   pub track_event_read : TrackEventRead (λ raw at running rules r. EventOrLeft (rules_of rules) raw running.status at (event_read r))
   -- a list, read: it holds a list of the events that stand there; those before a refusal stand, and it gives the place of the refused delta
   pub event_list_read : EventListRead (λ raw at running rules r.
-      (l : ListAt) × (list_read r ≡ held_as capacity l) × ListStands (rules_of rules) raw capacity running.status at l)
+      (l : ListAt) × (list_read_of r ≡ held_as capacity l) × ListStands (rules_of rules) raw capacity running.status at l)
   -- one event, and one row's, written: a refusal leaves every byte and the running status; an acceptance changes no byte but its own
   pub write_event_lem : WriteEvent (λ event running rules bytes out at r end.
       EventLeaves running.status at out (wrote_event r end) (wrote_event r end).written.answer)
@@ -106,5 +106,5 @@ pub record Point1 : Type 0 where
   -- is written, and every byte as it came
   pub read_bank_lem : BankRead (λ block r. Keeps of_bank (verdict_of r.verdict) (held_tracks most_tracks []) (bank_of r.bank))
   pub bank_track_lem : BankTrack (λ block index r. By of_bank_track (bank_track r))
-  pub list_track : ListTrack (λ block index rules r. Keeps of_bank_track (verdict_of r.verdict) (empty_list capacity) (list_read r.read))
+  pub list_track : ListTrack (λ block index rules r. Keeps of_bank_track (verdict_of r.verdict) (empty_list capacity) (list_read_of r.read))
   pub write_bank_lem : WriteBank (λ bytes ranges count out r end. Keeps of_bank_writing (bank_wrote r) out end)

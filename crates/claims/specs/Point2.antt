@@ -14,7 +14,7 @@ use Rattle.base.specs.declared.Rules.{Rules}
 use Rattle.base.specs.declared.Running.{Running}
 use Rattle.event.specs.Event.{event_of, event_read}
 use Rattle.track.specs.List.{capacity}
-use Rattle.track.specs.Read.{list_read}
+use Rattle.track.specs.Read.{list_read_of}
 use Rattle.track.specs.declared.read.ReadList.{ReadList}
 use Rattle.rows.specs.RowEvent.{row_judged}
 use Rattle.write.specs.Wrote.{wrote_event}
@@ -40,28 +40,28 @@ p3 = 0x00 ∷ 0xFF ∷ 0x51 ∷ 0x03 ∷ 0x07 ∷ 0xA1 ∷ 0x20 ∷ []
 
 -- a record of the list that was read
 abbrev pub nth : ReadList → ℕ → Event Span
-nth r i = get_or (list_read r).list.records i filler
+nth r i = get_or (list_read_of r).list.records i filler
 
 -- P1's bytes and P2's behind them, from no running status, are two different events, read to the end
 pub record TwoEvents (raw : List ℕ) (r : ReadList) : Type 0 where
   -- a reader that refuses everything is shut out
-  pub all : (list_read r).stop ≡ ended
-  pub count : (list_read r).list.count ≡ 2
-  pub place : (list_read r).place ≡ 7
-  pub status : (list_read r).running ≡ 0x90
+  pub all : (list_read_of r).stop ≡ ended
+  pub count : (list_read_of r).list.count ≡ 2
+  pub place : (list_read_of r).place ≡ 7
+  pub status : (list_read_of r).running ≡ 0x90
   -- and one that reads its first event and copies it on
   pub differ : Same raw (nth r 0) raw (nth r 1) → ⊥
 
 -- another list, of P3's bytes: its event is another, so that a reader that returns one event always is shut out
 abbrev pub OtherEvent : List ℕ → ReadList → List ℕ → ℕ → Running → Rules → ReadList → Type 0
 OtherEvent raw r raw' at running rules r' =
-    raw' ≡ p3 → at ≡ 0 → running.status ≡ 0 → ((list_read r').list.count ≡ 1) × (Same raw (nth r 0) raw' (nth r' 0) → ⊥)
+    raw' ≡ p3 → at ≡ 0 → running.status ≡ 0 → ((list_read_of r').list.count ≡ 1) × (Same raw (nth r 0) raw' (nth r' 0) → ⊥)
 
 pub record Point2 : Type 0 where
   -- one event, read at a place
   pub reads : TrackEventRead (λ raw at running rules r. event_read r ≡ event_at (rules_of rules) running.status raw at)
   -- a list, read at a place
-  pub reads_lists : EventListRead (λ raw at running rules r. list_read r ≡ held_as capacity (list_at (rules_of rules) capacity running.status raw at))
+  pub reads_lists : EventListRead (λ raw at running rules r. list_read_of r ≡ held_as capacity (list_at (rules_of rules) capacity running.status raw at))
   -- one event, written at a place
   pub writes : WriteEvent (λ event running rules bytes out at r end.
       wrote_event r end ≡ write_event running.status (legal (rules_of rules) bytes (event_of event)) out at)
@@ -81,4 +81,4 @@ pub record Point2 : Type 0 where
   -- what is shut out, by whatever rules is read
   pub two_events : EventListRead (λ raw at running rules r. raw ≡ p1 ++ p2 → at ≡ 0 → running.status ≡ 0 → TwoEvents raw r)
   pub other_event : EventListRead (λ raw at running rules r. raw ≡ p1 → at ≡ 0 → running.status ≡ 0
-      → ((list_read r).list.count ≡ 1) × EventListRead (OtherEvent raw r))
+      → ((list_read_of r).list.count ≡ 1) × EventListRead (OtherEvent raw r))

@@ -12,7 +12,7 @@ use Rattle.base.specs.declared.Running.{Running}
 use Rattle.event.specs.Event.{event_of}
 use Rattle.event.specs.declared.TrackEvent.{TrackEvent}
 use Rattle.track.specs.List.{capacity, record_of}
-use Rattle.track.specs.Read.{list_read}
+use Rattle.track.specs.Read.{list_read_of}
 use Rattle.track.specs.declared.list.EventList.{EventList}
 use Rattle.track.specs.declared.read.ReadList.{ReadList}
 use Rattle.rows.specs.RowLists.{rows_judged}
@@ -103,7 +103,7 @@ module _ (list : EventList) (running : Running) (rules : base.Rules) (bytes : Li
   abbrev pub ReadAgain : List ℕ → ℕ → Running → base.Rules → ReadList → Type 0
   ReadAgain raw at running' rules' r =
       raw ≡ take n w.buffer → at ≡ 0 → running' ≡ running → rules_of rules' ≡ strict_of (rules_of rules)
-      → ReadBack raw (list_read r) n w.running bytes (map record_of list.records) list.count
+      → ReadBack raw (list_read_of r) n w.running bytes (map record_of list.records) list.count
 
 -- an event whose bytes were written at the front of a buffer, and another whose bytes the first begin with, by the same rules, strict or not
 module _ (e : TrackEvent) (running : Running) (rules : base.Rules) (bytes own : List ℕ) where

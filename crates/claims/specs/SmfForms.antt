@@ -139,10 +139,10 @@ pub record SmfForms : Type 0 where
   pub payload_written : WriteVarlenSlice (λ bytes slice out at r end. (n : ℕ) → written_to r ≡ gives n
       → Fewest (PayloadForm (take slice.length (drop slice.start bytes))) (between at n end))
   -- an event, from any running status: its payload ends where it ends
-  pub event_read : TrackEventRead (λ raw at running rules r. (e : Event (List ℕ)) (after : ℕ) (s rest : List ℕ)
+  pub event_read_lem : TrackEventRead (λ raw at running rules r. (e : Event (List ℕ)) (after : ℕ) (s rest : List ℕ)
       → is_running running.status ≡ true → (f : EventForm running.status e after s) → drop at raw ≡ s ++ rest
       → event_read r ≡ reads_at (record { event = event e.delta (map_kind (span_before (at + length s)) e.kind); used = length s; running = after; padding = event_padding f }))
-  pub event_written : WriteEvent (λ event running rules bytes out at r end. (n : ℕ) → (wrote_event r end).written.answer ≡ gives n
+  pub event_written_lem : WriteEvent (λ event running rules bytes out at r end. (n : ℕ) → (wrote_event r end).written.answer ≡ gives n
       → (e : Event (List ℕ)) × (legal (rules_of rules) bytes (event_of event) ≡ gives e)
       × Fewest (EventForm running.status e (wrote_event r end).running) (between at n end))
   -- format and timing; bytes beyond the two are ignored
@@ -150,7 +150,7 @@ pub record SmfForms : Type 0 where
       (f high low : ℕ) (more : List ℕ) → FormatForm f high low → a.0.now ≡ high ∷ low ∷ more → format_read_of r ≡ gives f)
   pub format_written : Always header.format.Format.encode.Reads.Learnt (λ κs a r e.
       (high : ℕ) × (low : ℕ) × FormatForm (format_of a.0) high low × (r ≡ high ∷ low ∷ []))
-  pub timing_read : Always header.timing.Timing.read.Reads.Learnt (λ κs a r e.
+  pub timing_read_lem : Always header.timing.Timing.read.Reads.Learnt (λ κs a r e.
       (t : smf.Timing) (high low : ℕ) (more : List ℕ) → TimingForm t high low → a.0.now ≡ high ∷ low ∷ more → timing_read r ≡ gives t)
   pub timing_written : Always header.timing.Timing.encode.Reads.Learnt (λ κs a r e.
       (bytes : List ℕ) → timing_encoded r ≡ gives bytes → (high : ℕ) × (low : ℕ) × TimingForm (timing_of a.0) high low × (bytes ≡ high ∷ low ∷ []))

@@ -16,7 +16,7 @@ use Rattle.smf.specs.Write.{over}
 use Rattle.smf.specs.Lists as smf
 use Rattle.smf.specs.Lists.{stopped, list_at, Reader, takes, stops, step_on, next_at}
 use Rattle.smf.proofs.Answer.{pick_test}
-use Rattle.smf.proofs.Event.{event_read}
+use Rattle.smf.proofs.Event.{event_read_lem}
 use Rattle.smf.proofs.Write.{length_over, over_over, put_fits}
 use Rattle.smf.proofs.ListPlaces.{list_invalid}
 use Rattle.smf.proofs.Steps.{reader_at}
@@ -67,7 +67,7 @@ module _ (rules : Rules) (cap : ℕ) (s : List ℕ) (r : Reader) where
 
   event_known : r.count < cap → (a : Reading (Taken (Event (List ℕ)))) → read_event rules r.running (drop r.place s) ≡ a → Known (step_on r (placed s r.place a))
   unfolding step_on placed
-  event_known h (reads t) e = (h, (event_read rules r.running (drop r.place s) t e).runs)
+  event_known h (reads t) e = (h, (event_read_lem rules r.running (drop r.place s) t e).runs)
   event_known h (refused n after) e = tt
 
   pub next_known : Known (next_at rules cap s r)

@@ -126,18 +126,18 @@ module _ (rules : Rules) (running : ℕ) (s : List ℕ) where
   event_good = raw_named_read (read_raw rules running s) (raw_read rules running s)
 
 module _ (rules : Rules) (running : ℕ) (s : List ℕ) (t : Taken (Event (List ℕ))) (read : read_event rules running s ≡ reads t) where
-  pub event_read : EventRead rules running s t
-  event_read = subst (ReadGood rules running s) read (event_good rules running s)
+  pub event_read_lem : EventRead rules running s t
+  event_read_lem = subst (ReadGood rules running s) read (event_good rules running s)
 
   pub one_fewer : length (encode_event running t.value) + length t.rest ≤ length s + 1
-  one_fewer = ⊎_elim (λ f. omega arith) (λ f. omega (arith, ap length f.0, f.1)) event_read.fewest
+  one_fewer = ⊎_elim (λ f. omega arith) (λ f. omega (arith, ap length f.0, f.1)) event_read_lem.fewest
 
   -- what is left is the end of the bytes, and the payload stands right before it
   pub read_tail : t.rest ≡ drop (length s - length t.rest) s
-  read_tail = ends_tail s (kind_load [] t.value.kind) t.rest event_read.ends
+  read_tail = ends_tail s (kind_load [] t.value.kind) t.rest event_read_lem.ends
 
   pub read_payload_lem : let p = kind_load [] t.value.kind in p ≡ take (length p) (drop (length s - length t.rest - length p) s)
-  read_payload_lem = ends_load s (kind_load [] t.value.kind) t.rest event_read.ends
+  read_payload_lem = ends_load s (kind_load [] t.value.kind) t.rest event_read_lem.ends
 
 -- Records: a payload as start and length
 
@@ -173,7 +173,7 @@ module _ (rules : Rules) (running : ℕ) (s : List ℕ) (at : ℕ) (t : Taken (E
   pub placed_itself : map_event (bytes_of s) (event_placed s at t).event ≡ t.value
   unfolding map_event
   placed_itself =
-      let e = event_read rules running (drop at s) t read in
+      let e = event_read_lem rules running (drop at s) t read in
       let p = kind_load [] t.value.kind in
       let n = ends_length (drop at s) p t.rest e.ends in
       let start : at + (length (drop at s) - length t.rest - length p) ≡ place_of s at t.rest - length p = omega arith in
@@ -200,13 +200,13 @@ event_reached rules running s at = by (read_event rules running (drop at s)) ref
   by : (a : Reading (Taken (Event (List ℕ)))) → read_event rules running (drop at s) ≡ a → EventReached rules running s at (placed s at a)
   by (refused n after) e = (e, refl, refl)
   by (reads t) e =
-      let past = (event_read rules running (drop at s) t e).past in
+      let past = (event_read_lem rules running (drop at s) t e).past in
       let tail : t.rest ≡ drop (at + (length (drop at s) - length t.rest)) s = read_tail rules running (drop at s) t e ∙ drop-drop (length (drop at s) - length t.rest) at s in
       record {
         read = e ∙ rw (placed_itself rules running s at t e, ← tail) refl;
         some = omega arith;
         within = omega (arith, length-drop at s);
-        padded = omega (arith, (event_read rules running (drop at s) t e).padded);
+        padded = omega (arith, (event_read_lem rules running (drop at s) t e).padded);
       }
 
 -- What strict reading accepts, lenient reads alike

@@ -122,9 +122,9 @@ module _ (high low : ℕ) (hh : high < 256) (hl : low < 256) where
       let back : 256 - (256 - high) ≡ high = omega arith in
       record { legal = rw (is, lt-ltb low 256 hl); bytes = rw back }
 
-  pub timing_read : (more : List ℕ) {t : Timing} → read_timing (high ∷ low ∷ more) ≡ gives t → TimingRead high low t
+  pub timing_read_lem : (more : List ℕ) {t : Timing} → read_timing (high ∷ low ∷ more) ≡ gives t → TimingRead high low t
   unfolding read_field read_timing timing_from to_rate
-  timing_read more {t} e =
+  timing_read_lem more {t} e =
       by-lt high 128
       (λ h. let told : gives (metrical (word high low)) ≡ gives t = rw (lt-ltb high 128 h) at e in
       subst (TimingRead high low) (cc) (metrical_read h))

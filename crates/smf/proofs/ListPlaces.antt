@@ -14,7 +14,7 @@ use Rattle.smf.specs.Event.{Event, map_event, read_event, EventAt, event_placed,
 use Rattle.smf.specs.Lists.{Stop, ended, full, stopped, ListTaken, paddings, ListAt, list_placed, read_more, read_list, events_of, list_at}
 use Rattle.smf.proofs.Answer.{by-lt, pick_test}
 use Rattle.smf.proofs.Place.{Sited, site_begun}
-use Rattle.smf.proofs.Event.{event_read, read_tail, Reached, EventReached, event_reached}
+use Rattle.smf.proofs.Event.{event_read_lem, read_tail, Reached, EventReached, event_reached}
 use Rattle.smf.proofs.Lists.{more_none, more_left, more_read, more_not, list_read, list_alike}
 
 -- a list that stops at a place with no event
@@ -71,7 +71,7 @@ module _ (rules : Rules) (running : ℕ) (s : List ℕ) (at p : ℕ) (site : Sit
       → list_placed s at (read_more rules (suc n) running (drop p s)) ≡ in_front a.event a.padding (list_placed s at (read_more rules n a.running (drop (p + a.used) s)))
   unfolding paddings
   taken_step n t h e a q =
-      let past = (event_read rules running (drop p s) t e).past in
+      let past = (event_read_lem rules running (drop p s) t e).past in
       let tail : drop (p + (length (drop p s) - length t.rest)) s ≡ t.rest =
       sym (read_tail rules running (drop p s) t e ∙ drop-drop (length (drop p s) - length t.rest) p s)
       in

@@ -16,7 +16,7 @@ use Rattle.smf.specs.Lists.{Stop, ended, full, stopped, ListTaken, stops_at, bef
 use Rattle.smf.proofs.Answer.{by-test, pick_test}
 use Rattle.smf.proofs.Wire.{ReadsAlike}
 use Rattle.smf.proofs.Legal.{is_legal, AllLegal}
-use Rattle.smf.proofs.Event.{event_reads_back, event_read, read_tail, event_alike}
+use Rattle.smf.proofs.Event.{event_reads_back, event_read_lem, read_tail, event_alike}
 
 -- One event of the list
 
@@ -70,7 +70,7 @@ module _ (rules : Rules) where
       let rest = encode_list (event_after e) es in
       let t = taken e rest (event_after e) 0 in
       let back = event_reads_back rules running e rest is h in
-      let read = event_read rules running (encode_event running e ++ rest) t back in
+      let read = event_read_lem rules running (encode_event running e ++ rest) t back in
       let l = others read.runs in
       rw (more_read rules running most (encode_event running e ++ rest) t (omega (arith, read.past)) back)
       (record { events = ap (λ (x : List (Event (List ℕ))). e ∷ x) l.events; stop = l.stop; rest = l.rest; after = l.after; padding = omega (arith, l.padding) })
@@ -150,7 +150,7 @@ module _ (rules : Rules) where
   unfolding encode_list list_after
   one_more most running s t e r =
       let l = read_more rules most t.running t.rest in
-      let one = event_read rules running s t e in
+      let one = event_read_lem rules running s t e in
       let es = events_of l in
       let own = encode_event running t.value in
       let others = encode_list (event_after t.value) es in

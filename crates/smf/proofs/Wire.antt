@@ -172,17 +172,17 @@ module _ (rules : Rules) (running : ℕ) (delta : Delta) where
         padded = omega (arith, g.padded);
       }
 
-  meta_read : (s : List ℕ) → BodyRead rules running delta (0xFF ∷ s) (read_meta rules delta s)
+  meta_read_lem : (s : List ℕ) → BodyRead rules running delta (0xFF ∷ s) (read_meta rules delta s)
   unfolding read_meta
-  meta_read [] = tt
-  meta_read (t ∷ s) = load_read (typed t) (0xFF ∷ t ∷ []) s (typed_loads t) (read_payload rules s) (payload_loaded rules s)
+  meta_read_lem [] = tt
+  meta_read_lem (t ∷ s) = load_read (typed t) (0xFF ∷ t ∷ []) s (typed_loads t) (read_payload rules s) (payload_loaded rules s)
 
   status_read : (status : ℕ) (s : List ℕ) → 0x80 ≤ status → BodyRead rules running delta (status ∷ s) (read_status rules running delta status s)
   unfolding read_status
   status_read status s low =
       let P = BodyRead rules running delta (status ∷ s) in
       pick_test P (ltb status 0xF0) (λ e. channel-read (status ∷ []) status (record { low = low; high = ltb-true status 0xF0 e }) (lead_most running status) s)
-      (λ e0. pick_test P (eqb status 0xFF) (λ e. rw (eqb-true status 0xFF e) (meta_read s))
+      (λ e0. pick_test P (eqb status 0xFF) (λ e. rw (eqb-true status 0xFF e) (meta_read_lem s))
       (λ e1. pick_test P (eqb status 0xF0) (λ e. load_read (system status) (status ∷ []) s (system_loads status (inl (eqb-true status 0xF0 e))) (read_payload rules s) (payload_loaded rules s))
       (λ e2. pick_test P (eqb status 0xF7) (λ e. load_read (system status) (status ∷ []) s (system_loads status (inr (eqb-true status 0xF7 e))) (read_payload rules s) (payload_loaded rules s))
       (λ e3. pick_test P (ltb status 0xF7) (λ e. tt) (λ e. tt)))))

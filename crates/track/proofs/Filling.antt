@@ -19,7 +19,7 @@ use Rattle.track.specs.declared.cursor.Next.{Next}
 use Rattle.track.specs.declared.cursor.Next.TheVariants as next
 use Rattle.track.specs.declared.cursor.NextEvent.{NextEvent}
 use Rattle.track.specs.declared.cursor.Stop.{Stop}
-use Rattle.track.specs.Read.{list_read}
+use Rattle.track.specs.Read.{list_read_of}
 use Rattle.track.specs.declared.read.ReadList.{ReadList}
 use Rattle.track.proofs.Held.{Holds, holds_none, holds_more}
 use Rattle.track.proofs.Reading.{Sofar, begun, all, took, again}
@@ -56,6 +56,6 @@ module _ {cap : ℕ} {rules : Rules} {s : List ℕ} {at first : ℕ} {xs : List 
       }
 
 -- a list that was read counts its events
-pub read_count : (cap : ℕ) (l : ListAt) (r : ReadList) → list_read r ≡ held_as cap l → r.list.count ≡ length l.events
+pub read_count : (cap : ℕ) (l : ListAt) (r : ReadList) → list_read_of r ≡ held_as cap l → r.list.count ≡ length l.events
 unfolding holding
 read_count cap l r e = ap (λ (h : ListHeld). h.list.count) e

@@ -11,7 +11,7 @@ use Rattle.event.proofs.Identical.{back_event, same_event}
 use Rattle.track.specs.List.{record_of, held_of}
 use Rattle.track.specs.declared.list.Record.{Record}
 use Rattle.track.specs.Cursor.{stop_of, next_of}
-use Rattle.track.specs.Read.{list_read}
+use Rattle.track.specs.Read.{list_read_of}
 use Rattle.track.specs.declared.list.EventList.{EventList}
 use Rattle.track.specs.declared.cursor.Cursor.{Cursor}
 use Rattle.track.specs.declared.cursor.Next.{Next}
@@ -61,15 +61,15 @@ same_next (next.Stop why) = ap next.Stop (same_stop why)
 back_list : smf.ListHeld → ReadList
 back_list l = record { list = back_held l.list; stop = back_stop l.stop; place = l.place; running = record { status = l.running }; padding = l.padding }
 
-same_list : (r : ReadList) → back_list (list_read r) ≡ r
+same_list : (r : ReadList) → back_list (list_read_of r) ≡ r
 unfolding back_list
 same_list r = rw (same_held r.list, same_stop r.stop)
 
 pub held_of_injective : {x y : EventList} → held_of x ≡ held_of y → x ≡ y
 held_of_injective = injective held_of back_held same_held
 
-pub list_read_injective : {x y : ReadList} → list_read x ≡ list_read y → x ≡ y
-list_read_injective = injective list_read back_list same_list
+pub list_read_injective : {x y : ReadList} → list_read_of x ≡ list_read_of y → x ≡ y
+list_read_injective = injective list_read_of back_list same_list
 
 pub next_of_injective : {x y : Next} → next_of x ≡ next_of y → x ≡ y
 next_of_injective = injective next_of back_next same_next

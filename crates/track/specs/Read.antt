@@ -5,5 +5,5 @@ use Rattle.track.specs.Cursor.{stop_of}
 use Rattle.track.specs.List.{held_of}
 
 -- what `EventList::read` answers
-abbrev pub list_read : ReadList → smf.ListHeld
-list_read r = record { list = held_of r.list; stop = stop_of r.stop; place = r.place; running = r.running.status; padding = r.padding }
+abbrev pub list_read_of : ReadList → smf.ListHeld
+list_read_of r = record { list = held_of r.list; stop = stop_of r.stop; place = r.place; running = r.running.status; padding = r.padding }

@@ -4,7 +4,7 @@ ghost use Rattle.std.specs.Prelude.{◌≡◌};
 ghost use Rattle.smf.specs.Lists.{list_at, held_as};
 ghost use Rattle.base.specs.Rules.{rules_of};
 ghost use Rattle.track.specs.List.{capacity};
-ghost use Rattle.track.specs.Read.{list_read};
+ghost use Rattle.track.specs.Read.{list_read_of};
 
 use crate::cursor::{Cursor, Next, Stop};
 use crate::list::EventList;
@@ -29,7 +29,7 @@ pub struct ReadList {
 impl EventList {
     // Reads the list at a place, from a running status. From an invalid one nothing is read: 1 comes before all else.
     pub fn read(raw: &[u8], at: usize, running: Running, rules: Rules) -> ReadList
-        ensures { list_read result ≡ held_as capacity (list_at (rules_of rules) capacity running.status raw.now at) }
+        ensures { list_read_of result ≡ held_as capacity (list_at (rules_of rules) capacity running.status raw.now at) }
     {
         let mut list = EventList::new();
         let mut cursor = Cursor {
