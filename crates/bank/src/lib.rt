@@ -31,7 +31,7 @@ pub struct Bank {
 }
 
 // Whether something was accepted. It stands beside a bank and beside a list, since an enum can hold no array.
-#[derive(Drop)]
+#[derive(Clone, Copy)]
 pub enum Verdict {
     // it was
     Accepted,

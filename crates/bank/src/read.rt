@@ -21,7 +21,7 @@ pub struct ReadBank {
 }
 
 // What asking for a track by its index answers.
-#[derive(Drop)]
+#[derive(Clone, Copy)]
 pub enum BankTrack {
     // where it stands in the block
     Track(Range),

@@ -12,7 +12,7 @@ use base::{Range, Refusal};
 use number::payload::{is_inside, write_slice};
 
 // What writing a bank answers.
-#[derive(Drop)]
+#[derive(Clone, Copy)]
 pub enum WroteBank {
     // how many bytes it has
     Total(usize),

@@ -7,7 +7,7 @@ pub mod refusals;
 pub mod status;
 
 // Why something was refused, in the order of the table's numbers: document 01, "Refusal numbers".
-#[derive(Drop)]
+#[derive(Clone, Copy)]
 pub enum Refusal {
     // 1: the running status is invalid, neither none (0) nor 80..EF
     RunningStatus,
@@ -68,11 +68,11 @@ pub enum Refusal {
 }
 
 // A number of two bits: the code of an SMPTE rate.
-#[derive(Drop)]
+#[derive(Clone, Copy)]
 pub struct u2(pub u8);
 
 // What `u2::try_from` answers.
-#[derive(Drop)]
+#[derive(Clone, Copy)]
 pub enum TriedU2 {
     // the number, which fits
     Made(u2),
@@ -81,11 +81,11 @@ pub enum TriedU2 {
 }
 
 // A number of four bits: a channel.
-#[derive(Drop)]
+#[derive(Clone, Copy)]
 pub struct u4(pub u8);
 
 // What `u4::try_from` answers.
-#[derive(Drop)]
+#[derive(Clone, Copy)]
 pub enum TriedU4 {
     // the number, which fits
     Made(u4),
@@ -94,11 +94,11 @@ pub enum TriedU4 {
 }
 
 // A number of seven bits, as a data byte holds it: a key, a velocity, a controller, a program, a port.
-#[derive(Drop)]
+#[derive(Clone, Copy)]
 pub struct u7(pub u8);
 
 // What `u7::try_from` answers.
-#[derive(Drop)]
+#[derive(Clone, Copy)]
 pub enum TriedU7 {
     // the number, which fits
     Made(u7),
@@ -107,11 +107,11 @@ pub enum TriedU7 {
 }
 
 // A number of 14 bits: a raw bend.
-#[derive(Drop)]
+#[derive(Clone, Copy)]
 pub struct u14(pub u16);
 
 // What `u14::try_from` answers.
-#[derive(Drop)]
+#[derive(Clone, Copy)]
 pub enum TriedU14 {
     // the number, which fits
     Made(u14),
@@ -120,11 +120,11 @@ pub enum TriedU14 {
 }
 
 // A number of 15 bits: ticks in a beat.
-#[derive(Drop)]
+#[derive(Clone, Copy)]
 pub struct u15(pub u16);
 
 // What `u15::try_from` answers.
-#[derive(Drop)]
+#[derive(Clone, Copy)]
 pub enum TriedU15 {
     // the number, which fits
     Made(u15),
@@ -133,11 +133,11 @@ pub enum TriedU15 {
 }
 
 // A number of 24 bits: microseconds in a beat.
-#[derive(Drop)]
+#[derive(Clone, Copy)]
 pub struct u24(pub u32);
 
 // What `u24::try_from` answers.
-#[derive(Drop)]
+#[derive(Clone, Copy)]
 pub enum TriedU24 {
     // the number, which fits
     Made(u24),
@@ -147,21 +147,21 @@ pub enum TriedU24 {
 
 // The rules of a call. Whoever reads, judges, measures or writes is given them and passes them on, so that a rule that is
 // added moves only what looks at it.
-#[derive(Drop)]
+#[derive(Clone, Copy)]
 pub struct Rules {
     // whether reading refuses what it else takes as it stands: the Rust's feature `strict`, at run time
     pub strict: bool,
 }
 
 // The running status, the status byte that the next event may leave out: the Rust's `Option<u8>`.
-#[derive(Drop)]
+#[derive(Clone, Copy)]
 pub struct Running {
     // 80..EF, or 0 for none; any other is invalid
     pub status: u8,
 }
 
 // Where a payload stands in the bytes lent: the Rust's `&'a [u8]` in a kind.
-#[derive(Drop)]
+#[derive(Clone, Copy)]
 pub struct Range {
     // the place of its first byte
     pub start: usize,

@@ -11,7 +11,7 @@ use midi::MidiMessage;
 use number::u28;
 
 // What an event is.
-#[derive(Drop)]
+#[derive(Clone, Copy)]
 pub enum TrackEventKind {
     // 80..EF, or a data byte under running status: a message for a channel
     Midi { channel: u4, message: MidiMessage },
@@ -24,7 +24,7 @@ pub enum TrackEventKind {
 }
 
 // One event of a track.
-#[derive(Drop)]
+#[derive(Clone, Copy)]
 pub struct TrackEvent {
     // the ticks since the event before
     pub delta: u28,

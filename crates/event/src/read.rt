@@ -21,7 +21,7 @@ use number::varlen::ReadNumber;
 
 // An event that was read, the bytes used, and the running status after it. What both answers have stands first in
 // each, and so at one place in memory: a compiler then keeps it in registers.
-#[derive(Drop)]
+#[derive(Clone, Copy)]
 pub struct EventAt {
     // how many bytes it has, from its delta on
     pub used: usize,
@@ -34,7 +34,7 @@ pub struct EventAt {
 }
 
 // A refusal of an event. It uses no byte and has no padding, and says so, as documents 01 and 02 do.
-#[derive(Drop)]
+#[derive(Clone, Copy)]
 pub struct EventRefused {
     // 0
     pub used: usize,
@@ -47,7 +47,7 @@ pub struct EventRefused {
 }
 
 // What reading an event answers.
-#[derive(Drop)]
+#[derive(Clone, Copy)]
 pub enum ReadEvent {
     // an event, the bytes used and the running status after it
     Event(EventAt),
@@ -56,7 +56,7 @@ pub enum ReadEvent {
 }
 
 // An event of which the delta was read.
-#[derive(Drop)]
+#[derive(Clone, Copy)]
 struct Begun {
     // the place where it began
     start: usize,

@@ -9,7 +9,7 @@ use crate::read::ReadEvent;
 use base::{Rules, Running};
 
 // What the reader answers, with the running status that it leaves taken out of either case.
-#[derive(Drop)]
+#[derive(Clone, Copy)]
 pub struct Step {
     // the answer
     pub read: ReadEvent,

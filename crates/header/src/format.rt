@@ -7,7 +7,7 @@ use crate::field;
 use base::Refusal;
 
 // How the tracks of a file belong together.
-#[derive(Drop)]
+#[derive(Clone, Copy)]
 pub enum Format {
     // 0: there is one track
     SingleTrack,
@@ -18,7 +18,7 @@ pub enum Format {
 }
 
 // What `read` answers.
-#[derive(Drop)]
+#[derive(Clone, Copy)]
 pub enum ReadFormat {
     // the format that the bytes begin with
     Read(Format),

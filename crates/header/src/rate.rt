@@ -9,7 +9,7 @@ use crate::Fps;
 use base::{Refusal, u2};
 
 // What `from_int` answers.
-#[derive(Drop)]
+#[derive(Clone, Copy)]
 pub enum TriedFps {
     // the rate of that number
     Made(Fps),

@@ -11,7 +11,7 @@ use crate::{Fps, SmpteTime};
 use base::{Refusal, Rules, u2};
 
 // What `new` and `read` answer.
-#[derive(Drop)]
+#[derive(Clone, Copy)]
 pub enum TriedSmpteTime {
     // a time inside its ranges
     Made(SmpteTime),
@@ -20,7 +20,7 @@ pub enum TriedSmpteTime {
 }
 
 // What `encode` answers.
-#[derive(Drop)]
+#[derive(Clone, Copy)]
 pub enum EncodedSmpteTime {
     // the five bytes in their order: hour and rate, minute, second, frame, subframe
     Bytes(u8, u8, u8, u8, u8),
@@ -29,7 +29,7 @@ pub enum EncodedSmpteTime {
 }
 
 // What `second_f32` answers.
-#[derive(Drop)]
+#[derive(Clone, Copy)]
 pub enum AskedSecond {
     // the seconds
     Is(f32),
@@ -38,7 +38,7 @@ pub enum AskedSecond {
 }
 
 // What `position` answers.
-#[derive(Drop)]
+#[derive(Clone, Copy)]
 pub enum AskedPosition {
     // subframes since the day began
     Is(u32),

@@ -8,7 +8,7 @@ use crate::{Fps, field, signed};
 use base::{Refusal, u15};
 
 // What a tick is.
-#[derive(Drop)]
+#[derive(Clone, Copy)]
 pub enum Timing {
     // a part of a beat: how many ticks a beat has
     Metrical(u15),
@@ -17,7 +17,7 @@ pub enum Timing {
 }
 
 // What `read` answers.
-#[derive(Drop)]
+#[derive(Clone, Copy)]
 pub enum ReadTiming {
     // the timing that the bytes begin with
     Read(Timing),
@@ -26,7 +26,7 @@ pub enum ReadTiming {
 }
 
 // What `encode` answers.
-#[derive(Drop)]
+#[derive(Clone, Copy)]
 pub enum EncodedTiming {
     // the two bytes, the high one first
     Bytes(u8, u8),

@@ -22,7 +22,7 @@ use header::smpte::TriedSmpteTime;
 use number::payload::{Payload, ReadSlice, read_varlen_slice};
 
 // A track number that may be missing: the Rust's `Option<u16>`.
-#[derive(Drop)]
+#[derive(Clone, Copy)]
 pub enum OptionU16 {
     // the message has two bytes or more
     Some(u16),
@@ -31,7 +31,7 @@ pub enum OptionU16 {
 }
 
 // What a track says beside the music. Text is a payload of any bytes.
-#[derive(Drop)]
+#[derive(Clone, Copy)]
 pub enum MetaMessage {
     // 00: the number of a sequence
     TrackNumber(OptionU16),
@@ -74,7 +74,7 @@ pub enum MetaMessage {
 }
 
 // A meta message that was read at a place.
-#[derive(Drop)]
+#[derive(Clone, Copy)]
 pub struct MetaAt {
     // the message
     pub message: MetaMessage,
@@ -85,7 +85,7 @@ pub struct MetaAt {
 }
 
 // What reading a meta message answers.
-#[derive(Drop)]
+#[derive(Clone, Copy)]
 pub enum ReadMeta {
     // a message, and where it ends
     Message(MetaAt),

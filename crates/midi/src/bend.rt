@@ -8,7 +8,7 @@ use crate::PitchBend;
 use base::{Refusal, u14};
 
 // What `as_int` answers.
-#[derive(Drop)]
+#[derive(Clone, Copy)]
 pub enum BendInt {
     // from -8,192 to 8,191
     Value(i16),
@@ -17,7 +17,7 @@ pub enum BendInt {
 }
 
 // What `as_f32` answers.
-#[derive(Drop)]
+#[derive(Clone, Copy)]
 pub enum BendF32 {
     // the signed bend by 8,192, exactly
     Value(f32),
@@ -26,7 +26,7 @@ pub enum BendF32 {
 }
 
 // What `as_f64` answers.
-#[derive(Drop)]
+#[derive(Clone, Copy)]
 pub enum BendF64 {
     // the signed bend by 8,192, exactly
     Value(f64),

@@ -5,5 +5,5 @@ pub mod payload;
 pub mod varlen;
 
 // A number of 28 bits, as a variable-length number of four bytes holds it: a tick count, a length.
-#[derive(Drop)]
+#[derive(Clone, Copy)]
 pub struct u28(pub u32);

@@ -11,7 +11,7 @@ use crate::varlen::{ReadNumber, WroteNumber};
 use base::{Range, Refusal, Rules};
 
 // A payload that was read. It is a struct of its own, so that what else is known of a payload can join it.
-#[derive(Drop)]
+#[derive(Clone, Copy)]
 pub struct Payload {
     // where it stands in the bytes lent; its event ends where it ends
     pub range: Range,
@@ -20,7 +20,7 @@ pub struct Payload {
 }
 
 // What reading a payload answers.
-#[derive(Drop)]
+#[derive(Clone, Copy)]
 pub enum ReadSlice {
     // a payload; leniently also the rest of the bytes, where they are fewer than its number says
     Slice(Payload),

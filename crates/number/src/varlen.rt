@@ -12,7 +12,7 @@ use crate::u28;
 use base::{Refusal, Rules};
 
 // What `u28::try_from` answers.
-#[derive(Drop)]
+#[derive(Clone, Copy)]
 pub enum TriedU28 {
     // the number, which fits
     Made(u28),
@@ -54,7 +54,7 @@ impl u28 {
 }
 
 // A number that was read at a place.
-#[derive(Drop)]
+#[derive(Clone, Copy)]
 pub struct NumberAt {
     // what it stands for
     pub value: u28,
@@ -65,7 +65,7 @@ pub struct NumberAt {
 }
 
 // What reading a number answers.
-#[derive(Drop)]
+#[derive(Clone, Copy)]
 pub enum ReadNumber {
     // a number; leniently also one that the end of the bytes cut off, or whose fourth byte has bit 7 set
     Number(NumberAt),
@@ -74,7 +74,7 @@ pub enum ReadNumber {
 }
 
 // What writing a number, or a payload, answers.
-#[derive(Drop)]
+#[derive(Clone, Copy)]
 pub enum WroteNumber {
     // the place behind the last byte written
     Next(usize),

@@ -14,7 +14,7 @@ use midi::MidiMessage;
 use track::list::{CAPACITY, EventList};
 
 // The note message of an event.
-#[derive(Drop)]
+#[derive(Clone, Copy)]
 pub enum Note {
     // it is none
     None,

@@ -21,7 +21,7 @@ use midi::{MidiMessage, PitchBend};
 use number::u28;
 
 // What making an event of a row answers.
-#[derive(Drop)]
+#[derive(Clone, Copy)]
 pub enum RowEvent {
     // the event, which may still be illegal: a field may be above its width
     Event(TrackEvent),

@@ -26,7 +26,7 @@ use midi::MidiMessage;
 pub const WIDTH: usize = 10;
 
 // A row without its delta, each number in the integer that it needs.
-#[derive(Drop)]
+#[derive(Clone, Copy)]
 pub struct Row {
     pub kind: u16,
     pub a: u32,

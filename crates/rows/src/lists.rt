@@ -20,7 +20,7 @@ const CELLS: usize = CAPACITY * WIDTH;
 
 // How many events were read and why reading stopped; the place of the next unread byte, and the running status there;
 // the padding of the events, in all.
-#[derive(Drop)]
+#[derive(Clone, Copy)]
 pub struct RowsRead {
     pub count: usize,
     pub stop: Stop,
@@ -30,7 +30,7 @@ pub struct RowsRead {
 }
 
 // What reading a list into rows answers.
-#[derive(Drop)]
+#[derive(Clone, Copy)]
 pub enum ReadRows {
     // the rows were laid into the cells
     Rows(RowsRead),
@@ -39,14 +39,14 @@ pub enum ReadRows {
 }
 
 // A row that was laid: where the reader is behind its event, and the event's padding.
-#[derive(Drop)]
+#[derive(Clone, Copy)]
 pub struct RowLaid {
     pub cursor: Cursor,
     pub padding: usize,
 }
 
 // What laying the row of the next event answers.
-#[derive(Drop)]
+#[derive(Clone, Copy)]
 pub enum Laid {
     // it was laid
     On(RowLaid),

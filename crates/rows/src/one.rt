@@ -11,7 +11,7 @@ use event::TrackEvent;
 use event::read::{EventRefused, ReadEvent};
 
 // What is told of an event beside its row.
-#[derive(Drop)]
+#[derive(Clone, Copy)]
 pub struct RowRead {
     // how many bytes it has, from its delta on
     pub used: usize,
@@ -22,7 +22,7 @@ pub struct RowRead {
 }
 
 // What reading an event into a row answers.
-#[derive(Drop)]
+#[derive(Clone, Copy)]
 pub enum ReadRow {
     // the event stands in the row
     Row(RowRead),

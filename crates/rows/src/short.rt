@@ -10,7 +10,7 @@ use crate::WIDTH;
 use base::Running;
 
 // A channel message with a delta of one byte.
-#[derive(Drop)]
+#[derive(Clone, Copy)]
 pub struct Short {
     // how many bytes it has; 0 where none was found
     pub used: usize,

@@ -17,7 +17,7 @@ use rows::back::{RowEvent, row_event, row_event_at};
 use track::list::CAPACITY;
 
 // What comparing rows answers.
-#[derive(Drop)]
+#[derive(Clone, Copy)]
 pub enum Sameness {
     // whether the events, or lists, are the same
     Told(bool),

@@ -11,7 +11,7 @@ use event::TrackEvent;
 use event::read::ReadEvent;
 
 // Why reading stopped.
-#[derive(Drop)]
+#[derive(Clone, Copy)]
 pub enum Stop {
     // at the end of the bytes
     End,
@@ -22,7 +22,7 @@ pub enum Stop {
 }
 
 // Where a reader of a list is.
-#[derive(Drop)]
+#[derive(Clone, Copy)]
 pub struct Cursor {
     // the running status at the place
     pub running: Running,
@@ -34,7 +34,7 @@ pub struct Cursor {
 
 // An event that was taken. The cursor's byte stands first, where `Stop` has one too: a compiler then keeps the rest in
 // registers.
-#[derive(Drop)]
+#[derive(Clone, Copy)]
 pub struct NextEvent {
     // where the reader is behind the event
     pub cursor: Cursor,
@@ -45,7 +45,7 @@ pub struct NextEvent {
 }
 
 // What a step answers.
-#[derive(Drop)]
+#[derive(Clone, Copy)]
 pub enum Next {
     // the next event of the list
     Event(NextEvent),

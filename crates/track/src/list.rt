@@ -12,7 +12,7 @@ use number::u28;
 pub const CAPACITY: usize = 128;
 
 // A record of a list: the event that it holds. Whatever else is told of an event in its list joins it here.
-#[derive(Drop)]
+#[derive(Clone, Copy)]
 pub struct Record {
     // the event
     pub event: TrackEvent,

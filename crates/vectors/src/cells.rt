@@ -13,7 +13,7 @@ pub const CELLS: usize = 4096;
 pub const NO_RULES: u8 = 0;
 
 // What a line gives: its letter, its first numbers as bytes and as places, and the cell of the last.
-#[derive(Drop)]
+#[derive(Clone, Copy)]
 pub struct Given {
     pub letter: u8,
     pub b1: u8,

@@ -4,7 +4,7 @@ use crate::cells::{CELLS, LINE, wide};
 
 // A line in cells, the letter in the first and then a number in each: the last cell, and those before the bytes and
 // before the answer. Where a sign is missing there is no such part.
-#[derive(Drop)]
+#[derive(Clone, Copy)]
 pub struct Line {
     pub last: usize,
     pub bytes: usize,

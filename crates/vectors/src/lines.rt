@@ -10,7 +10,7 @@ use std::num::wrapping_add_u64;
 pub const INPUT: usize = 0x10_0000;
 
 // What was compared of a group of lines, and of those before it; the number of the line.
-#[derive(Drop)]
+#[derive(Clone, Copy)]
 pub struct Tally {
     group: u64,
     group_differ: u64,

@@ -9,7 +9,7 @@ use number::varlen::TriedU28;
 use std::num::wrapping_add_u64;
 
 // The largest value; the low bits; 0 and the number tried, or the refusal's number and A5.
-#[derive(Drop)]
+#[derive(Clone, Copy)]
 struct Asked {
     largest: u64,
     low: u64,
@@ -129,7 +129,7 @@ pub fn one(given: Given, cells: &mut [u64; CELLS]) -> usize {
 }
 
 // A sum of numbers, and the sum of the sums so far, which tells their order.
-#[derive(Drop)]
+#[derive(Clone, Copy)]
 struct Sums {
     plain: u64,
     ordered: u64,

@@ -146,7 +146,7 @@ pub fn time(time: SmpteTime, rules: Rules) -> Made
 }
 
 // Whether a payload is there: its range inside the bytes lent, and its length a number's.
-#[derive(Drop)]
+#[derive(Clone, Copy)]
 pub enum Looked {
     // it is
     There,

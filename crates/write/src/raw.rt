@@ -8,7 +8,7 @@ use base::{Range, Refusal};
 use number::u28;
 
 // A channel status and its data.
-#[derive(Drop)]
+#[derive(Clone, Copy)]
 pub struct Channel {
     pub status: u8,
     // whether there are two data bytes
@@ -20,7 +20,7 @@ pub struct Channel {
 
 // A payload that stands in no bytes lent: the first n of five bytes. The bytes stand first, so that n lies where the
 // length of a `Range` does: with n first the compiler stores byte by byte what it then loads as one word.
-#[derive(Drop)]
+#[derive(Clone, Copy)]
 pub struct Own {
     pub a: u8,
     pub b: u8,
@@ -31,7 +31,7 @@ pub struct Own {
 }
 
 // What stands behind the delta.
-#[derive(Drop)]
+#[derive(Clone, Copy)]
 pub enum Raw {
     // a channel message
     Channel(Channel),
@@ -44,7 +44,7 @@ pub enum Raw {
 }
 
 // What stands behind a delta, or the number of what forbids it.
-#[derive(Drop)]
+#[derive(Clone, Copy)]
 pub enum Made {
     // what stands behind the delta
     Raw(Raw),
@@ -53,14 +53,14 @@ pub enum Made {
 }
 
 // An event that may be written, in its raw form.
-#[derive(Drop)]
+#[derive(Clone, Copy)]
 pub struct RawEvent {
     pub delta: u28,
     pub raw: Raw,
 }
 
 // What a door answers: an event that may be written, or the number of what forbids it.
-#[derive(Drop)]
+#[derive(Clone, Copy)]
 pub enum Judged {
     // the raw form of a legal event
     Raw(RawEvent),

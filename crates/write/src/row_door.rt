@@ -23,7 +23,7 @@ use rows::WIDTH;
 use rows::back::are_bytes;
 
 // The data bytes of a channel message's row: a bend is one number there.
-#[derive(Drop)]
+#[derive(Clone, Copy)]
 pub struct Data {
     pub pair: bool,
     pub a: u64,
