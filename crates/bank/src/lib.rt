@@ -22,7 +22,7 @@ const HEADER: usize = 8;
 const ENTRY: usize = 8;
 
 // A bank that was read.
-#[derive(Drop)]
+#[derive(Clone, Copy)]
 pub struct Bank {
     // where each track stands in the block; past the count start 0 and length 0
     pub tracks: [Range; TRACKS],

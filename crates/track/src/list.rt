@@ -19,7 +19,7 @@ pub struct Record {
 }
 
 // A list of events.
-#[derive(Drop)]
+#[derive(Clone, Copy)]
 pub struct EventList {
     // the events from the first on; past the count the filler, delta 0 and `EndOfTrack`, which writers do not look at
     pub records: [Record; CAPACITY],
