@@ -1,0 +1,33 @@
+-- `apk_bank_list` meets its contract: what `apk_list_read` ensures of the bytes of the track.
+use mathlib.Core.Path.{refl}
+use native.Mathlib.Omega.{arith}
+use Rattle.loader.specs.Entry.{from_bits}
+use Rattle.track.specs.List.{capacity}
+use Rattle.bank.specs.Bank.{most_tracks}
+use Rattle.bank.proofs.Answered.{said_within, said-unlisted, said-listed, range_bytes}
+use Rattle.bank.proofs.entries.apk_bank_list.Goals as goal
+
+pub overflow_add-end : goal.overflow_add-end
+overflow_add-end c =
+    let a = c.args in
+    let t = c.bank_track in
+    omega (arith, said_within most_tracks a.block.now a.index t.result t.ensures _ c.in-Track.is)
+
+pub slice_bounds-track-end : goal.slice_bounds-track-end
+slice_bounds-track-end c =
+    let a = c.args in
+    let t = c.bank_track in
+    said_within most_tracks a.block.now a.index t.result t.ensures _ c.in-Track.is
+
+pub returns-in-Refused : goal.returns-in-Refused
+returns-in-Refused c =
+    let a = c.args in
+    let t = c.bank_track in
+    rw (said-unlisted most_tracks a.block.now a.index t.result t.ensures (from_bits a.bits) capacity _ c.in-Refused.is) (c.number.ensures, (refl, (refl, (refl, (refl, refl)))))
+
+pub returns-in-Track : goal.returns-in-Track
+returns-in-Track c =
+    let a = c.args in
+    let t = c.bank_track in
+    let f = c.range-1.given in
+    rw (said-listed most_tracks a.block.now a.index t.result t.ensures (from_bits a.bits) capacity _ f.1, ← range_bytes a.block.now f.0.0) c.apk_list_read.ensures

@@ -1,0 +1,10 @@
+-- `u7::try_from` meets its contract, by the law of a width at 7.
+use native.Mathlib.Omega.{arith}
+use Rattle.smf.proofs.Width.{try_in, try_out}
+use Rattle.base.proofs.u7.try_from.Goals as goal
+
+pub returns-then-raw-le-MASK : goal.returns-then-raw-le-MASK
+returns-then-raw-le-MASK c = try_in 7 (omega arith)
+
+pub returns-else-raw-le-MASK : goal.returns-else-raw-le-MASK
+returns-else-raw-le-MASK c = try_out 7 (omega arith)

@@ -1,0 +1,36 @@
+-- `status_kind` meets its contract.
+use mathlib.Core.Path.{◌∙◌}
+use mathlib.Core.Logic.{inl, inr}
+use lib.ListN.{drop}
+use Rattle.smf.specs.Event.{placed, name_raw}
+use Rattle.smf.proofs.Reading.{status_meta, status_payload, status-common, status-realtime}
+use Rattle.base.specs.Rules.{rules_of}
+use Rattle.event.specs.Begun.{delta_of}
+use borrow.Author.Rules.{rules}
+use Rattle.event.proofs.read.status_kind.Goals as goal
+
+pub returns-then-status-lt247 : goal.returns-then-status-lt247
+unfolding placed name_raw
+returns-then-status-lt247 c =
+    let a = c.args in
+    c.refused.ensures
+    ∙ rw (status-common (rules_of a.rules) a.running.status (delta_of a.begun) a.status (drop a.at a.raw.now) c.requires.3 c.in-255.rest.0.1 (λ e. c.in-255.rest.1 (inl e)) (λ e. c.in-255.rest.1 (inr e)) c.if-status-lt247.true)
+
+pub returns-in-255 : goal.returns-in-255
+returns-in-255 c =
+    let a = c.args in
+    c.meta.ensures
+    ∙ rw (status_meta (rules_of a.rules) a.running.status (delta_of a.begun) a.status (drop a.at a.raw.now) c.in-255.is)
+
+pub returns-in-240 : goal.returns-in-240
+returns-in-240 c =
+    let a = c.args in
+    c.payload.ensures
+    ∙ rw (status_payload (rules_of a.rules) a.running.status (delta_of a.begun) a.status (drop a.at a.raw.now) c.in-240.is)
+
+pub returns-else-status-lt247 : goal.returns-else-status-lt247
+unfolding placed name_raw
+returns-else-status-lt247 c =
+    let a = c.args in
+    c.refused-in_default.ensures
+    ∙ rw (status-realtime (rules_of a.rules) a.running.status (delta_of a.begun) a.status (drop a.at a.raw.now) c.requires.3 c.in-255.rest.0.1 (λ e. c.in-255.rest.1 (inl e)) (λ e. c.in-255.rest.1 (inr e)) c.if-status-lt247.false)

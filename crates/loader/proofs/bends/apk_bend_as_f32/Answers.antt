@@ -1,0 +1,12 @@
+-- `loader::bends::apk_bend_as_f32` meets its contract, by what `as_f32` ensures of its answer. Assumes nothing.
+use mathlib.Core.Path.{refl, sym}
+use lib.Ieee.{binary32}
+use Rattle.smf.specs.Bend.{ask_float}
+use Rattle.loader.proofs.bends.apk_bend_as_f32.Goals as goal
+
+pub returns-in-Refused : goal.returns-in-Refused
+returns-in-Refused c =
+    simp (← c.number.ensures, c.in-Refused.is, sym {b = ask_float binary32 c.args.raw} c.as_f32.ensures.0) (refl, refl)
+
+pub returns-in-Value : goal.returns-in-Value
+returns-in-Value c = simp (c.in-Value.is, sym {b = ask_float binary32 c.args.raw} c.as_f32.ensures.0) (refl, refl)

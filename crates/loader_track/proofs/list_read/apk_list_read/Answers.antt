@@ -1,0 +1,27 @@
+-- `apk_list_read` meets its contract: the rows of what was read stand, or there is no room for them.
+use mathlib.Core.Path.{refl, ap, ◌∙◌}
+use Rattle.rows.specs.Read.{SheetAt, SheetRead, rows_read}
+use Rattle.loader_track.specs.Lists.{stop_number, list_given, sheet_put}
+use Rattle.loader_track.proofs.Sheets.{rows_refused, rows_read_lem}
+use borrow.Author.Rules.{rules}
+use Rattle.base.specs.Refusal.{number_of}
+use Rattle.loader_track.proofs.list_read.apk_list_read.Goals as goal
+
+pub returns-in-Refused : goal.returns-in-Refused
+returns-in-Refused c =
+    let f = c.refusal-1.given in
+    let a = c.args in
+    let l = list_given a.bits a.running a.bytes.now a.at in
+    let e = rw (c.rules.ensures, f.1) at c.read_rows.ensures in
+    let there = rows_refused l (sheet_put l a.rows.now).answer (number_of f.0.0) (ap (λ (s : SheetRead). s.answer) e) in
+    rw (← there) (c.number.ensures, (ap (λ (s : SheetRead). s.cells) e, (refl, (refl, (refl, refl)))))
+
+pub returns-in-Rows : goal.returns-in-Rows
+returns-in-Rows c =
+    let f = c.read-1.given in
+    let a = c.args in
+    let l = list_given a.bits a.running a.bytes.now a.at in
+    let e = rw (c.rules.ensures, f.1) at c.read_rows.ensures in
+    let there = rows_read_lem l (sheet_put l a.rows.now).answer (rows_read f.0.0) (ap (λ (s : SheetRead). s.answer) e) in
+    rw (← there.1)
+    (c.stop_number.ensures ∙ ap (λ (x : SheetAt). stop_number x.stop) there.2, (ap (λ (s : SheetRead). s.cells) e, (ap (λ (x : SheetAt). x.count) there.2, (ap (λ (x : SheetAt). x.place) there.2, (ap (λ (x : SheetAt). x.running) there.2, ap (λ (x : SheetAt). x.padding) there.2)))))

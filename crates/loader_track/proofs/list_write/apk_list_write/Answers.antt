@@ -1,0 +1,12 @@
+-- `apk_list_write` meets its contract, by what the writer answered.
+use mathlib.Core.Path.{refl}
+use borrow.Author.Rules.{rules}
+use Rattle.loader_track.proofs.list_write.apk_list_write.Goals as goal
+
+pub returns-in-Refused : goal.returns-in-Refused
+returns-in-Refused c =
+    simp (← c.write_rows.ensures, ← c.rules.ensures, c.in-Refused.is) (c.number.ensures, (refl, (refl, (refl, refl))))
+
+pub returns-in-Length : goal.returns-in-Length
+returns-in-Length c =
+    simp (← c.write_rows.ensures, ← c.rules.ensures, c.in-Length.is) (refl, (refl, (refl, (refl, refl))))

@@ -1,0 +1,12 @@
+-- `apk_event_same` meets its contract: what `same_rows` answers is handed out.
+use Rattle.smf.specs.Event.{Same}
+use Rattle.rows.specs.RowEvent.{called_row}
+use Rattle.same.specs.OfRows.{rows_asked}
+use Rattle.loader_track.proofs.SameAnswers.{handed}
+use Rattle.loader_track.proofs.sameness.apk_event_same.Goals as goal
+
+pub returns : goal.returns
+returns c =
+    let a = c.args in
+    let r = c.same_rows in
+    handed (rows_asked a.row-a.now a.row-b.now) (Same a.bytes-a.now (called_row a.row-a.now) a.bytes-b.now (called_row a.row-b.now)) r.result _ _ _ c.hand_out.ensures.0 c.hand_out.ensures.1 r.ensures

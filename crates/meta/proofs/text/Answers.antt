@@ -1,0 +1,40 @@
+-- `text` meets its contract, arm by arm.
+use mathlib.Core.Path.{◌≡◌}
+use Prim.Native.Nat.{ℕ, ◌+◌, ◌≤◌}
+use native.Mathlib.Omega.{arith}
+use Rattle.meta.proofs.text.Goals as goal
+
+pub returns-in-1 : goal.returns-in-1
+returns-in-1 c = rw c.in-1.is
+
+pub returns-in-2 : goal.returns-in-2
+returns-in-2 c = rw c.in-2.is
+
+pub returns-in-3 : goal.returns-in-3
+returns-in-3 c = rw c.in-3.is
+
+pub returns-in-4 : goal.returns-in-4
+returns-in-4 c = rw c.in-4.is
+
+pub returns-in-5 : goal.returns-in-5
+returns-in-5 c = rw c.in-5.is
+
+pub returns-in-6 : goal.returns-in-6
+returns-in-6 c = rw c.in-6.is
+
+pub returns-in-7 : goal.returns-in-7
+returns-in-7 c = rw c.in-7.is
+
+pub returns-in-8 : goal.returns-in-8
+returns-in-8 c = rw c.in-8.is
+
+-- what is past n and is not n is past n + 1
+above : (n t : ℕ) → (t ≡ n → ⊥) → n ≤ t → n + 1 ≤ t
+above n t ne h = omega arith
+
+pub returns-in_default : goal.returns-in_default
+returns-in_default c =
+    let t = c.args.type-byte in
+    let h : 9 ≤ t = above 8 t c.in-1.rest.1 (above 7 t c.in-1.rest.0.1 (above 6 t c.in-1.rest.0.0.1 (above 5 t c.in-1.rest.0.0.0.1 (above 4 t c.in-1.rest.0.0.0.0.1 (above 3 t c.in-1.rest.0.0.0.0.0.1 (above 2 t c.in-1.rest.0.0.0.0.0.0.1 (above 1 t c.in-1.rest.0.0.0.0.0.0.0.1 c.requires.0))))))) in
+    let nine : t ≡ 9 = omega (arith, c.requires.1) in
+    rw nine

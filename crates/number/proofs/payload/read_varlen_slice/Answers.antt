@@ -1,0 +1,25 @@
+-- `read_varlen_slice` meets its contract, by what `read_u7` answered.
+use Rattle.base.specs.Rules.{rules_of}
+use Rattle.number.proofs.PayloadReads.{slice_refused, slice-whole, slice-cut-strict, slice-cut-lenient}
+use borrow.Author.Rules.{rules}
+use Rattle.number.proofs.payload.read_varlen_slice.Goals as goal
+
+pub returns-then-n-left : goal.returns-then-n-left
+returns-then-n-left c =
+    let a = c.args in
+    slice-whole (rules_of a.rules) a.raw.now a.at c.read_u7.ensures c.in-Number.is c.bytes_from-left.ensures c.if-n-left.true
+
+pub returns-then-rules : goal.returns-then-rules
+returns-then-rules c =
+    let a = c.args in
+    slice-cut-strict (rules_of a.rules) a.raw.now a.at c.read_u7.ensures c.in-Number.is c.bytes_from-left.ensures c.if-n-left.false c.if-rules.true
+
+pub returns-in-Refused : goal.returns-in-Refused
+returns-in-Refused c =
+    let a = c.args in
+    slice_refused (rules_of a.rules) a.raw.now a.at c.read_u7.ensures c.in-Refused.is
+
+pub returns-else-rules : goal.returns-else-rules
+returns-else-rules c =
+    let a = c.args in
+    slice-cut-lenient (rules_of a.rules) a.raw.now a.at c.read_u7.ensures c.in-Number.is c.bytes_from-left.ensures c.if-n-left.false c.if-rules.false

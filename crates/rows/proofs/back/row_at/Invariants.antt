@@ -1,0 +1,10 @@
+use Prim.Native.Nat.{◌-◌}
+use Rattle.rows.specs.Rows.{width}
+use Rattle.rows.proofs.Copying.{Copied}
+use Rattle.rows.proofs.back.row_at.Given as goal
+
+abbrev pub invariant-loop-i : goal.invariant-loop-i
+invariant-loop-i l = Copied l.cells l.at l.row l.i
+
+abbrev pub decreases-loop-i : goal.decreases-loop-i
+decreases-loop-i l = width - l.i

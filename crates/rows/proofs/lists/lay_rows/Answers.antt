@@ -1,0 +1,63 @@
+-- The loop that reads a list into cells meets its contract: an invalid running status, its turns and its stops.
+use mathlib.Core.Path.{sym, ap, ◌∙◌}
+use mathlib.Core.Logic.{⊎_elim}
+use Prim.Native.Nat.{◌-◌}
+use native.Mathlib.Omega.{arith}
+use borrow.Author.Rules.{rules}
+use Rattle.smf.specs.Lists.{next_at}
+use Rattle.base.specs.Rules.{rules_of}
+use Rattle.track.specs.Cursor.{reader_of}
+use Rattle.track.specs.List.{capacity}
+use Rattle.track.proofs.Reading.{took}
+use Rattle.rows.specs.Read.{laid_of}
+use Rattle.rows.specs.declared.lists.Laid.{Laid}
+use Rattle.rows.proofs.RowCells.{unread, laying_first, laying_length, laying-more, laid, LaidOn, laid_on, laid_stop}
+use Rattle.rows.proofs.lists.lay_rows.Goals as goal
+use Rattle.rows.proofs.lists.lay_rows.Goals.{In-On-2}
+
+pub loop-why-init : goal.loop-why-init
+loop-why-init c =
+    let a = c.args in
+    laying_first capacity (rules_of a.rules) a.raw.now a.at a.running.status a.rows.now (sym c.is_valid.ensures ∙ c.if-is_valid.true)
+
+pub lay_next-requires : goal.lay_next-requires
+lay_next-requires c =
+    let l = c.loop-why in
+    let room = c.requires in
+    (l.invariant.runs, omega (arith, laying_length room l.invariant, room))
+
+-- a step that was laid, by what the list takes
+on : (c : In-On-2) → let a = c.args in LaidOn (next_at (rules_of a.rules) capacity a.raw.now (reader_of c.loop-why.cursor)) c.loop-why.cursor.count c.loop-why.rows c.lay_next.new.1.1.1.0 c.in-On.next.padding (reader_of c.in-On.next.cursor)
+on c =
+    let a = c.args in
+    laid_on (next_at (rules_of a.rules) capacity a.raw.now (reader_of c.loop-why.cursor)) c.loop-why.cursor.count
+    (ap (λ (m : Laid). laid_of m c.lay_next.new.1.1.1.0) (sym c.in-On.is) ∙ c.lay_next.ensures)
+
+pub overflow_add-padding : goal.overflow_add-padding
+overflow_add-padding c =
+    let s = c.loop-why.invariant.sofar in
+    let t = took s (on (goal.at.overflow_add-padding c).In-On-2).is in
+    omega (arith, s.padded, t.padded, t.within)
+
+pub loop-why-smaller : goal.loop-why-smaller
+loop-why-smaller c =
+    let t = took c.loop-why.invariant.sofar (on (goal.at.loop-why-smaller c).In-On-2).is in
+    omega (arith, t.moved, t.within)
+
+pub loop-why-preserved : goal.loop-why-preserved
+loop-why-preserved c =
+    let o = on (goal.at.loop-why-preserved c).In-On-2 in
+    laying-more c.requires c.loop-why.invariant o.is _ o.put
+
+pub returns : goal.returns
+returns c =
+    let a = c.args in
+    ⊎_elim
+    (λ w.
+    let stop = laid_stop (next_at (rules_of a.rules) capacity a.raw.now (reader_of w.1.cursor)) w.1.cursor.count
+    (ap (λ (m : Laid). laid_of m w.3.last.1.1.1.0) (sym w.7.given.1) ∙ w.3.ensures)
+    in
+    rw (w.9, w.10, w.11, w.12, stop.kept) (laid c.requires w.1.inv stop.is))
+    (λ w. rw (w.1, w.2, w.3, w.4)
+    (unread capacity (rules_of a.rules) a.raw.now a.at a.running.status a.rows.now (sym c.is_valid.ensures ∙ w.0.left)))
+    c.if-is_valid.branch

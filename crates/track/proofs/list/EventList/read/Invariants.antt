@@ -1,0 +1,14 @@
+use Prim.Native.Nat.{◌-◌}
+use lib.ListN.{length}
+use borrow.Author.Rules.{rules}
+use Rattle.base.specs.Rules.{rules_of}
+use Rattle.track.specs.Cursor.{reader_of}
+use Rattle.track.specs.List.{capacity}
+use Rattle.track.proofs.Filling.{Filling}
+use Rattle.track.proofs.list.EventList.read.Given as goal
+
+abbrev pub invariant-loop-why : goal.invariant-loop-why
+invariant-loop-why l = Filling capacity (rules_of l.rules) l.raw l.at l.initial.cursor.running.status l.list.records l.padding (reader_of l.cursor)
+
+abbrev pub decreases-loop-why : goal.decreases-loop-why
+decreases-loop-why l = length l.raw - l.cursor.place

@@ -1,0 +1,53 @@
+-- `is_named` meets its contract, type by type.
+use mathlib.Core.Path.{◌≡◌, refl}
+use mathlib.Core.Bool.{Bool, true, false, ◌||◌}
+use borrow.Author.Tests.{le-leb, lt-leb, ne_eqb}
+use Rattle.smf.specs.Event.{is_named}
+use Rattle.write.proofs.make.is_named.Goals as goal
+
+-- a test with nothing behind it
+alone : (t : Bool) → (t || false) ≡ t
+alone true = refl
+alone false = refl
+
+pub returns-then-type_byte-le9 : goal.returns-then-type_byte-le9
+unfolding is_named
+returns-then-type_byte-le9 c = rw (le-leb _ _ c.if-type_byte-le9.true)
+
+pub returns-in-47 : goal.returns-in-47
+unfolding is_named
+returns-in-47 c = rw c.in-47.is
+
+pub returns-in-89 : goal.returns-in-89
+unfolding is_named
+returns-in-89 c = rw c.in-89.is
+
+pub returns-in-127 : goal.returns-in-127
+unfolding is_named
+returns-in-127 c = rw c.in-127.is
+
+pub returns-in-32 : goal.returns-in-32
+unfolding is_named
+returns-in-32 c = rw c.in-32.is (simp alone)
+
+pub returns-in-33 : goal.returns-in-33
+unfolding is_named
+returns-in-33 c = rw c.in-33.is (simp alone)
+
+pub returns-in-81 : goal.returns-in-81
+unfolding is_named
+returns-in-81 c = rw c.in-81.is (simp alone)
+
+pub returns-in-84 : goal.returns-in-84
+unfolding is_named
+returns-in-84 c = rw c.in-84.is (simp alone)
+
+pub returns-in-88 : goal.returns-in-88
+unfolding is_named
+returns-in-88 c = rw c.in-88.is
+
+pub returns-in_default : goal.returns-in_default
+unfolding is_named
+returns-in_default c =
+    let x = c.in-47.rest.0.0 in
+    rw (lt-leb _ _ c.if-type_byte-le9.false, ne_eqb _ _ x.0.0.0.0.0.1, ne_eqb _ _ x.0.0.0.0.1, ne_eqb _ _ x.0.0.0.1, ne_eqb _ _ x.0.0.1, ne_eqb _ _ x.0.1, ne_eqb _ _ x.1, ne_eqb _ _ c.in-47.rest.0.1, ne_eqb _ _ c.in-47.rest.1)

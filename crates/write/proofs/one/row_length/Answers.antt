@@ -1,0 +1,21 @@
+-- `row_length` meets its contract: the running status first.
+use borrow.Author.Rules.{rules}
+use borrow.Author.Tests.{not-true, not-false}
+use Rattle.base.specs.Rules.{rules_of}
+use Rattle.rows.specs.RowEvent.{row_judged}
+use Rattle.write.specs.Size.{size_judged, size_event}
+use Rattle.write.proofs.Doors.{row_number, told}
+use Rattle.write.proofs.one.row_length.Goals as goal
+
+pub returns-then-not-is_valid : goal.returns-then-not-is_valid
+unfolding size_event
+returns-then-not-is_valid c = rw (← c.is_valid.ensures, not-true c.is_valid.result c.if-not-is_valid.true)
+
+pub measured-requires : goal.measured-requires
+measured-requires c =
+    let a = c.args in
+    told a.bytes.now (row_judged (rules_of a.rules) a.bytes.now a.row) (row_number (rules_of a.rules) a.bytes.now a.row) c.row_raw.result c.row_raw.ensures
+
+pub returns : goal.returns
+unfolding size_event size_judged
+returns c = let v = c.is_valid in rw (← v.ensures, not-false v.result c.if-not-is_valid.false, ← c.row_raw.ensures) c.measured.ensures
