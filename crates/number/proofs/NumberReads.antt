@@ -1,6 +1,6 @@
 -- The walk over a number's bytes, as the reader at a place takes it.
-use mathlib.Core.Path.{◌≡◌, refl, sym, ap, ◌∙◌}
-use mathlib.Core.Bool.{Bool, true, false}
+use mathlib.Core.Path.{◌≡◌, refl, sym, ◌∙◌}
+use mathlib.Core.Bool.{true, false}
 use mathlib.Core.List.{List, [], ◌∷◌}
 use Prim.Native.Nat.{ℕ, zero, suc, ◌+◌, ◌-◌, ◌*◌, ◌%◌, ◌^◌, ◌≤◌, ◌<◌}
 use native.Mathlib.Numerals.{add-one, sub-one}
@@ -9,8 +9,8 @@ use native.Mathlib.Omega.{arith}
 use lib.ListN.{length, get_or, drop, drop_of_length-le}
 use lib.Seq.{drop-cons}
 use borrow.Author.Tests.{lt-ltb, le-ltb}
-use Rattle.smf.specs.Answer.{Answer, gives, refuses, Rules}
-use Rattle.smf.specs.Number.{joined, encode_number, Numeral, numeral, number_from, read_number}
+use Rattle.smf.specs.Answer.{gives, refuses, Rules}
+use Rattle.smf.specs.Number.{joined, encode_number, number_from, read_number}
 use Rattle.smf.specs.Place.{NumberAt, number_at}
 use Rattle.smf.proofs.Place.{Sited, site_begun, site_next, site_bounds, number_placed_lem, number_refused}
 

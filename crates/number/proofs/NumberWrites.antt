@@ -1,11 +1,11 @@
 -- A number's bytes, put into a buffer from the last to the first.
 use mathlib.Core.Path.{◌≡◌, refl, ap, sym, ◌∙◌}
 use mathlib.Core.List.{List, [], ◌∷◌, ◌++◌, append_assoc}
-use Prim.Native.Nat.{ℕ, zero, suc, ◌+◌, ◌-◌, ◌*◌, ◌/◌, ◌%◌, ◌^◌, ◌≤◌, ◌<◌}
+use Prim.Native.Nat.{ℕ, zero, suc, ◌+◌, ◌-◌, ◌/◌, ◌%◌, ◌^◌, ◌≤◌, ◌<◌}
 use native.Mathlib.Numerals.{add-one}
 use native.Mathlib.Nat.{pow-suc}
 use native.Mathlib.Omega.{arith}
-use lib.ListN.{length, get_or, take, drop, set, length-append, length-take, length-drop, length-set}
+use lib.ListN.{length, take, set, length-append, length-take, length-drop, length-set}
 use lib.Seq.{take-suc, set_at, split_at, get_or-set_same, take-set-le, drop-set-lt, length-take-le}
 use Rattle.smf.specs.Number.{ahead, encode_number}
 use Rattle.smf.specs.Write.{over}

@@ -1,14 +1,13 @@
 -- Payloads and meta messages at a place: what was read there, and where it stands.
 use mathlib.Core.Path.{◌≡◌, refl, sym, ap, ◌∙◌}
-use mathlib.Core.Bool.{Bool, true, false}
-use mathlib.Core.List.{List, [], ◌∷◌, ◌++◌}
-use Prim.Native.Nat.{ℕ, suc, ◌+◌, ◌-◌, ◌^◌, ◌≤◌, ◌<◌}
+use mathlib.Core.List.{List}
+use Prim.Native.Nat.{ℕ, ◌+◌, ◌-◌, ◌^◌, ◌≤◌, ◌<◌}
 use native.Mathlib.Numerals.{add-one}
 use native.Mathlib.Omega.{arith}
 use lib.Dec.{leb, eqb}
 use lib.ListN.{length, take, drop, get_or, length-drop, drop_of_length-le}
-use lib.Seq.{drop-drop, drop-cons, length-take-le}
-use Rattle.smf.specs.Answer.{pick, Answer, gives, refuses, and_then, Rules}
+use lib.Seq.{drop-drop, drop-cons}
+use Rattle.smf.specs.Answer.{Answer, gives, refuses, and_then, Rules}
 use Rattle.smf.specs.Payload.{Payload, payload, read_payload}
 use Rattle.smf.specs.Place.{place_of, Span, span_placed, PayloadAt, payload_placed, payload_at, bytes_of}
 use Rattle.smf.specs.Kind.{Meta, midi_channel, midi_port, smpte_offset, byte, is_text, track_number_of, narrow, time_in, called_meta}

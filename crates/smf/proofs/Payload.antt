@@ -1,16 +1,16 @@
 -- The laws of payloads: what is written is read back, where it stands, and nothing shorter is read as it.
-use mathlib.Core.Path.{◌≡◌, refl, sym, ap, ◌∙◌}
-use mathlib.Core.Bool.{Bool, true, false}
-use mathlib.Core.List.{List, [], ◌∷◌, ◌++◌, append_assoc}
+use mathlib.Core.Path.{◌≡◌, refl, ap, ◌∙◌}
+use mathlib.Core.Bool.{true, false}
+use mathlib.Core.List.{List, [], ◌++◌, append_assoc}
 use mathlib.Core.Logic.{◌⊎◌, inl, inr, ⊎_elim}
 use Prim.Native.Nat.{ℕ, ◌+◌, ◌-◌, ◌^◌, ◌≤◌, ◌<◌}
 use native.Mathlib.Omega.{arith}
 use lib.Dec.{leb}
-use lib.ListN.{length, take, drop, length-append, length-drop, length-take}
+use lib.ListN.{length, take, drop, length-append, length-drop}
 use lib.Seq.{take-append_seam, drop-append_seam, drop-drop, length-take-le, take-length, drop-length}
 use borrow.Author.Tests.{le-leb, leb-true, leb-false}
-use Rattle.smf.specs.Answer.{pick, Answer, gives, refuses, and_then, Rules, strictly, leniently}
-use Rattle.smf.specs.Number.{encode_number, Numeral, numeral, read_number, padding_of}
+use Rattle.smf.specs.Answer.{Answer, gives, refuses, and_then, Rules, leniently}
+use Rattle.smf.specs.Number.{encode_number, Numeral, read_number, padding_of}
 use Rattle.smf.specs.Payload.{Payload, payload, payload_after, read_payload, encode_payload}
 use Rattle.smf.proofs.Answer.{pick_test, said_of, Alike, pick_alike, strictly_alike, then_alike}
 use Rattle.smf.proofs.Number.{reads_back, encode_unpadded, Took, NumberTook, read_took, shortest, number_alike, encode_monotone}

@@ -1,7 +1,7 @@
 -- From a place to what is left there, and back.
 use mathlib.Core.Path.{◌≡◌, refl, sym, ap, ◌∙◌, subst}
-use mathlib.Core.Bool.{Bool, true, false}
-use mathlib.Core.List.{List, [], ◌∷◌, ◌++◌}
+use mathlib.Core.Bool.{true, false}
+use mathlib.Core.List.{List, []}
 use Prim.Native.Nat.{ℕ, ◌+◌, ◌-◌, ◌^◌, ◌≤◌, ◌<◌}
 use native.Mathlib.Omega.{arith}
 use lib.ListN.{length, take, drop, length-drop}
@@ -9,10 +9,10 @@ use lib.Seq.{drop-drop, length-take-le}
 use borrow.Author.Tests.{le-leb, lt-leb}
 use Rattle.smf.specs.Answer.{Answer, gives, refuses, and_then, Rules, strictly}
 use Rattle.smf.specs.Number.{encode_number, Numeral, numeral, read_number, padding_of}
-use Rattle.smf.specs.Payload.{Payload, payload, payload_after, read_payload}
+use Rattle.smf.specs.Payload.{payload, payload_after, read_payload}
 use Rattle.smf.specs.Place.{place_of, NumberAt, number_placed, number_at, payload_at}
 use Rattle.smf.proofs.Answer.{said_of}
-use Rattle.smf.proofs.Number.{Took, NumberTook, read_took}
+use Rattle.smf.proofs.Number.{NumberTook, read_took}
 
 -- p is the place of what is left from p on: at, or one that was reached from there within the bytes
 abbrev pub Sited : List ℕ → ℕ → ℕ → Type 0

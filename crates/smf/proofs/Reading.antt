@@ -1,5 +1,5 @@
 -- Reading one event as a reader at a place takes it: from the place of what it reads next, for an event that began earlier.
-use mathlib.Core.Path.{◌≡◌, refl, sym, ap, ◌∙◌, subst}
+use mathlib.Core.Path.{◌≡◌, refl}
 use mathlib.Core.Bool.{Bool, true, false}
 use mathlib.Core.List.{List, [], ◌∷◌}
 use mathlib.Core.Logic.{◌⊎◌, inl, inr, ⊎_elim}
@@ -7,20 +7,20 @@ use Prim.Native.Nat.{ℕ, suc, ◌+◌, ◌-◌, ◌/◌, ◌%◌, ◌≤◌, �
 use native.Mathlib.Numerals.{add-one}
 use native.Mathlib.Omega.{arith}
 use lib.Dec.{ltb, eqb}
-use lib.ListN.{length, take, drop, get_or, length-drop, drop_of_length-le}
+use lib.ListN.{length, drop, get_or, length-drop, drop_of_length-le}
 use lib.Seq.{drop-cons}
 use borrow.Author.Tests.{lt-ltb, le-ltb, ltb-true, ltb-false, ne_eqb}
 use Rattle.smf.specs.Answer.{pick, Answer, gives, refuses, and_then, Rules}
-use Rattle.smf.specs.Number.{Numeral, numeral, read_number}
-use Rattle.smf.specs.Payload.{Payload, payload, read_payload}
+use Rattle.smf.specs.Number.{read_number}
+use Rattle.smf.specs.Payload.{Payload, read_payload}
 use Rattle.smf.specs.Place.{place_of, NumberAt, number_at, Span, PayloadAt, payload_at, bytes_of}
 use Rattle.smf.specs.Running.{is_running}
-use Rattle.smf.specs.Wire.{RawEvent, raw_event, Taken, taken, Delta, Reading, reads, refused, system, typed, data_length, table_length, read_one, read_two, read_channel, with_payload, read_meta, read_status, read_body, after_delta, read_raw}
-use Rattle.smf.specs.Kind.{Message, Meta, Kind, midi, sys_ex, escape, meta, message_one, message_two, called_meta, called}
-use Rattle.smf.specs.Event.{Event, event, map_meta, map_kind, map_event, named, name_raw, span_before, event_placed, ReadAt, reads_at, refused_at, placed, read_event, event_at}
+use Rattle.smf.specs.Wire.{raw_event, Taken, taken, Delta, Reading, reads, refused, system, typed, data_length, table_length, read_one, read_two, read_channel, with_payload, read_meta, read_status, read_body, after_delta, read_raw}
+use Rattle.smf.specs.Kind.{Message, Meta, midi, sys_ex, escape, meta, message_one, message_two, called_meta, called}
+use Rattle.smf.specs.Event.{Event, event, map_kind, map_event, named, name_raw, span_before, ReadAt, reads_at, refused_at, placed, read_event, event_at}
 use Rattle.smf.specs.MetaAt.{MetaTaken, meta_named, read_meta_message, MetaAt, meta_placed, meta_at}
 use Rattle.smf.proofs.Answer.{by-test, by-lt, said_of, said_refused}
-use Rattle.smf.proofs.Payload.{Loaded, PayloadLoaded, payload_loaded}
+use Rattle.smf.proofs.Payload.{PayloadLoaded, payload_loaded}
 use Rattle.smf.proofs.Place.{Sited, site_next, Reached, NumberReached, number_reached}
 use Rattle.smf.proofs.MetaAt.{end_of, LoadedAt, PayloadReached, payload_reached}
 

@@ -1,6 +1,6 @@
 -- Lists of events taken step by step: what one step says of the list from there on.
 use mathlib.Core.Path.{◌≡◌, refl, ap, subst, ◌∙◌}
-use mathlib.Core.Bool.{true, false}
+use mathlib.Core.Bool.{true}
 use mathlib.Core.List.{List}
 use Prim.Native.Nat.{ℕ, suc, ◌+◌, ◌-◌, ◌≤◌, ◌<◌}
 use native.Mathlib.Omega.{arith}
@@ -11,10 +11,10 @@ use Rattle.smf.specs.Answer.{Rules}
 use Rattle.smf.specs.Running.{is_running}
 use Rattle.smf.specs.Place.{Span}
 use Rattle.smf.specs.Event.{Event, EventAt, ReadAt, reads_at, refused_at, event_at}
-use Rattle.smf.specs.Lists.{Stop, ended, full, stopped, read_more, ListAt, list_placed, list_at, Reader, Next, takes, stops, step_on, next_at}
+use Rattle.smf.specs.Lists.{read_more, ListAt, list_placed, list_at, Reader, Next, takes, stops, step_on, next_at}
 use Rattle.smf.proofs.Place.{Sited}
 use Rattle.smf.proofs.Answer.{pick_test}
-use Rattle.smf.proofs.Event.{Reached, EventReached, event_reached}
+use Rattle.smf.proofs.Event.{EventReached, event_reached}
 use Rattle.smf.proofs.ListPlaces.{stops_there, in_front, list_begun, more_end, more_full, more_refused, more_step, more_next}
 
 -- the list from a reader on, of one that began at a place

@@ -1,13 +1,13 @@
 -- The laws of writing: where there is room and where there is none; two writes in a row are one.
-use mathlib.Core.Path.{◌≡◌, refl, sym, ap, ◌∙◌}
-use mathlib.Core.Bool.{Bool, true, false}
-use mathlib.Core.List.{List, [], ◌∷◌, ◌++◌, append_assoc}
-use Prim.Native.Nat.{ℕ, ◌+◌, ◌-◌, ◌^◌, ◌≤◌, ◌<◌}
+use mathlib.Core.Path.{◌≡◌, sym, ap, ◌∙◌}
+use mathlib.Core.Bool.{true, false}
+use mathlib.Core.List.{List, ◌++◌, append_assoc}
+use Prim.Native.Nat.{ℕ, ◌+◌, ◌^◌, ◌≤◌, ◌<◌}
 use native.Mathlib.Omega.{arith}
 use lib.ListN.{length, take, drop, length-append, length-take, length-drop}
 use lib.Seq.{take_at, drop-drop, drop-append-add, length-take-le}
 use borrow.Author.Tests.{leb-true, leb-false, le-leb, lt-leb, lt-ltb, le-ltb}
-use Rattle.smf.specs.Answer.{pick, Answer, gives, refuses, and_then}
+use Rattle.smf.specs.Answer.{Answer, gives, refuses}
 use Rattle.smf.specs.Width.{try_width}
 use Rattle.smf.specs.Number.{encode_number}
 use Rattle.smf.specs.Payload.{encode_payload}

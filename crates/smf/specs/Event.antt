@@ -1,12 +1,12 @@
 -- One event, named: read from bytes, and the bytes of a legal one. Document 01, "Bytes of an event", "Refusal numbers" and "Lists".
-use Rattle.std.specs.Prelude.{◌≡◌, Bool, true, false, ◌&&◌, ◌||◌, not, List, ℕ, ◌+◌, ◌-◌, ◌^◌, ltb, leb, eqb, length, drop}
+use Rattle.std.specs.Prelude.{◌≡◌, Bool, true, false, ◌&&◌, ◌||◌, not, List, ℕ, ◌-◌, ◌^◌, ltb, leb, eqb, length, drop}
 use Rattle.std.specs.Int.Signed.{mag}
 use Rattle.smf.specs.Answer.{pick, Answer, gives, refuses, unless, Rules}
 use Rattle.smf.specs.Running.{is_running}
 use Rattle.smf.specs.Place.{Span, place_of, inside, bytes_of}
 use Rattle.smf.specs.Smpte.{is_time}
 use Rattle.smf.specs.Write.{Written, left, put}
-use Rattle.smf.specs.Wire.{Raw, RawEvent, raw_event, Taken, taken, Reading, reads, refused, read_raw, encode_raw_event, running_after}
+use Rattle.smf.specs.Wire.{RawEvent, raw_event, Taken, taken, Reading, reads, refused, read_raw, encode_raw_event, running_after}
 use Rattle.smf.specs.Kind.{Message, note_off, note_on, aftertouch, controller, program_change, channel_aftertouch, pitch_bend}
 use Rattle.smf.specs.Kind.{Meta, track_number, no_track_number, text, midi_channel, midi_port, end_of_track, tempo, smpte_offset, time_signature, key_signature, sequencer_specific, unknown}
 use Rattle.smf.specs.Kind.{Kind, midi, sys_ex, escape, meta, is_text, called, raw_of}

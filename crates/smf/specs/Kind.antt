@@ -1,11 +1,11 @@
 -- The named kinds of events: what a raw event is called, and the raw event of a kind. SMF 1.0 defines the forms; document 01,
 -- "Bytes of an event", says what becomes of short and long ones, and which are refused.
-use Rattle.std.specs.Prelude.{Bool, true, false, not, List, [], ◌∷◌, ℕ, ◌+◌, ◌*◌, ◌/◌, ◌%◌, ltb, leb, eqb, ℤ, length, get_or}
+use Rattle.std.specs.Prelude.{Bool, false, not, List, [], ◌∷◌, ℕ, ◌+◌, ◌*◌, ◌/◌, ◌%◌, ltb, leb, eqb, ℤ, length, get_or}
 use Rattle.smf.specs.Answer.{pick, Answer, gives, refuses, and_then, Rules}
 use Rattle.smf.specs.Signed.{signed_byte, byte_of_signed}
 use Rattle.smf.specs.Header.{word, two_bytes_of}
 use Rattle.smf.specs.Smpte.{Time, time_of, time_bytes}
-use Rattle.smf.specs.Wire.{data_length, Raw, one, two, system, typed}
+use Rattle.smf.specs.Wire.{Raw, one, two, system, typed}
 
 -- the seven channel messages
 pub data Message : Type 0 where

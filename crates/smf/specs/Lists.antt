@@ -1,5 +1,5 @@
 -- Lists of events, read from bytes and written. Document 01, "Lists" and "Refusal numbers".
-use Rattle.std.specs.Prelude.{◌≡◌, true, List, [], ◌∷◌, ◌++◌, map, ℕ, zero, suc, ◌+◌, ◌-◌, leb, length, take, drop, replicate}
+use Rattle.std.specs.Prelude.{◌≡◌, List, [], ◌∷◌, ◌++◌, map, ℕ, zero, suc, ◌+◌, ◌-◌, leb, length, take, drop, replicate}
 use Rattle.smf.specs.Answer.{pick, Answer, gives, refuses, Rules}
 use Rattle.smf.specs.Running.{is_running}
 use Rattle.smf.specs.Place.{Span, place_of, bytes_of}

@@ -1,8 +1,8 @@
 -- A meta message read at a place, from its type byte on. Document 01, "Bytes of an event": a type, and a payload.
-use Rattle.std.specs.Prelude.{List, [], ◌∷◌, ℕ, ◌+◌, length, drop}
+use Rattle.std.specs.Prelude.{List, [], ◌∷◌, ℕ, drop}
 use Rattle.smf.specs.Answer.{Answer, gives, refuses, and_then, Rules}
 use Rattle.smf.specs.Payload.{Payload, read_payload}
-use Rattle.smf.specs.Place.{Span, place_of, bytes_of}
+use Rattle.smf.specs.Place.{Span, place_of}
 use Rattle.smf.specs.Kind.{Meta, called_meta}
 use Rattle.smf.specs.Event.{map_meta, span_before}
 

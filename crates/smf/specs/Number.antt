@@ -1,7 +1,7 @@
 -- Variable-length numbers.
 -- SMF 1.0: one to four bytes of seven bits each, the highest first, bit 7 set on all but the last.
 use Rattle.std.specs.Prelude.{Bool, true, false, List, [], ◌∷◌, ◌++◌, ℕ, zero, suc, ◌+◌, ◌-◌, ◌*◌, ◌/◌, ◌%◌, ltb, eqb, length}
-use Rattle.smf.specs.Answer.{pick, Answer, gives, refuses, Rules, strictly}
+use Rattle.smf.specs.Answer.{pick, Answer, gives, Rules, strictly}
 
 -- the bits so far with a byte's low seven behind them
 abbrev pub joined : ℕ → ℕ → ℕ

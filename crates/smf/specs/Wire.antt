@@ -1,6 +1,6 @@
 -- One event as its bytes say it, before anything is named. SMF 1.0 and document 01, "Bytes of an event":
 -- a delta, then a status, or a data byte under running status; then the status's data.
-use Rattle.std.specs.Prelude.{List, [], ◌∷◌, ◌++◌, ℕ, ◌+◌, ◌/◌, ltb, eqb, length}
+use Rattle.std.specs.Prelude.{List, [], ◌∷◌, ◌++◌, ℕ, ◌+◌, ◌/◌, ltb, eqb}
 use Rattle.smf.specs.Answer.{pick, Answer, gives, refuses, Rules}
 use Rattle.smf.specs.Running.{is_running}
 use Rattle.smf.specs.Number.{Numeral, read_number, padding_of, encode_number}

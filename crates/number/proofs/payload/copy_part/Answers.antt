@@ -1,5 +1,4 @@
 -- `copy_part` meets its contract. The invariant: the first i bytes of the part stand at the place.
-use Prim.Native.Nat.{◌-◌}
 use mathlib.Core.Path.{◌≡◌, ap, ◌∙◌}
 use native.Mathlib.Numerals.{add-one}
 use native.Mathlib.Omega.{arith}

@@ -1,7 +1,6 @@
 -- `read_varlen_slice` meets its contract, by what `read_u7` answered.
 use Rattle.base.specs.Rules.{rules_of}
 use Rattle.number.proofs.PayloadReads.{slice_refused, slice-whole, slice-cut-strict, slice-cut-lenient}
-use borrow.Author.Rules.{rules}
 use Rattle.number.proofs.payload.read_varlen_slice.Goals as goal
 
 pub returns-then-n-left : goal.returns-then-n-left

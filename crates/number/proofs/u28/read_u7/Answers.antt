@@ -1,8 +1,8 @@
 -- `u28::read_u7` meets its contract. The invariant: the walk from here gives what the walk from the start gives.
-use mathlib.Core.Logic.{⊎_elim}
 use native.Mathlib.Omega.{arith}
 use Rattle.number.proofs.NumberReads.{begun, onward, room_more, cut_strict, cut_lenient, last, fourth_strict, fourth_lenient, more}
 use Rattle.number.proofs.u28.read_u7.Goals as goal
+use Rattle.number.proofs.u28.read_u7.Goals.{then-raw-place+else-rules, else-raw-place+then-byte-lt128, else-raw-place+else-byte-lt128+then-left-eq0+else-rules-2}
 
 pub loop-place-init : goal.loop-place-init
 loop-place-init c = begun _ _ _
@@ -27,13 +27,19 @@ loop-place-preserved c = rw c.wide.ensures (more c.loop-place.invariant c.if-raw
 pub overflow_sub-place : goal.overflow_sub-place
 overflow_sub-place c =
     let h = onward c.loop-place.invariant in
-    ⊎_elim (λ w. omega (arith, w.3)) (⊎_elim (λ w. omega (arith, w.5)) (λ w. omega (arith, w.7))) c.if-raw-place.branch
+    elim c.if-raw-place.branch [
+      | then-raw-place+else-rules w ↦ omega (arith, w.place-is)
+      | else-raw-place+then-byte-lt128 w ↦ omega (arith, w.place-is)
+      | else-raw-place+else-byte-lt128+then-left-eq0+else-rules-2 w ↦ omega (arith, w.place-is)
+    ]
 
 pub returns : goal.returns
 returns c =
     let l = c.loop-place.invariant in
     rw c.padding-padding.ensures
-    (⊎_elim (λ w. rw (w.3, w.5) (cut_lenient l w.0.taken w.1.left))
-    (⊎_elim (λ w. rw (w.5, w.7, w.2.ensures) (last l w.0.left w.3.taken))
-    (λ w. rw (w.7, w.9, w.2.ensures) (fourth_lenient l w.0.left w.3.left w.4.taken w.5.left)))
-    c.if-raw-place.branch)
+    (elim c.if-raw-place.branch [
+      | then-raw-place+else-rules w ↦ rw (w.bits-is, w.place-is) (cut_lenient l w.if-raw-place.true w.if-rules.false)
+      | else-raw-place+then-byte-lt128 w ↦ rw (w.bits-is, w.place-is, w.wide.ensures) (last l w.if-raw-place.false w.if-byte-lt128.true)
+      | else-raw-place+else-byte-lt128+then-left-eq0+else-rules-2 w ↦
+          rw (w.bits-is, w.place-is, w.wide.ensures) (fourth_lenient l w.if-raw-place.false w.if-byte-lt128.false w.if-left-eq0.true w.if-rules-2.false)
+    ])

@@ -1,4 +1,3 @@
-use borrow.Author.Rules.{rules}
 use Rattle.base.specs.Rules.{rules_of}
 use Rattle.number.proofs.NumberReads.{Walking}
 use Rattle.number.proofs.u28.read_u7.Given as goal
