@@ -6,7 +6,7 @@ use mir.Syntax.{w16}
 use Rattle.loader.proofs.bends.apk_bend_as_int.Goals as goal
 
 pub returns-in-Refused : goal.returns-in-Refused
-returns-in-Refused c = simp (← c.number.ensures, c.in-Refused.is, ← c.as_int.ensures) (refl, refl)
+returns-in-Refused c = simp (← c.number.ensures, c.in-Refused.is, ← c.as_int.ensures) (record { answer = refl; int = refl })
 
 pub returns-in-Value : goal.returns-in-Value
-returns-in-Value c = simp (c.in-Value.is, ← c.as_int.ensures) (refl, to_z-of_z {w = w16} (record { sfits = omega arith }))
+returns-in-Value c = simp (c.in-Value.is, ← c.as_int.ensures) (record { answer = refl; int = to_z-of_z {w = w16} (record { sfits = omega arith }) })

@@ -12,7 +12,7 @@ read_is : (c : After-read) → format_read_of c.read.result ≡ to_format c.args
 read_is c = c.read.ensures ∙ format_whole _ (omega arith) (omega arith)
 
 pub returns-in-Refused : goal.returns-in-Refused
-returns-in-Refused c = simp (← c.number.ensures, ← read_is (goal.at.returns-in-Refused c).After-read, c.in-Refused.is) (refl, refl)
+returns-in-Refused c = simp (← c.number.ensures, ← read_is (goal.at.returns-in-Refused c).After-read, c.in-Refused.is) (record { answer = refl; bytes = refl })
 
 pub returns-in-Read : goal.returns-in-Read
-returns-in-Read c = simp (c.encode.ensures, ← read_is (goal.at.returns-in-Read c).After-read, c.in-Read.is) (refl, refl)
+returns-in-Read c = simp (c.encode.ensures, ← read_is (goal.at.returns-in-Read c).After-read, c.in-Read.is) (record { answer = refl; bytes = refl })

@@ -4,11 +4,11 @@ use borrow.Author.Tests.{eq-eqb, ne_eqb}
 use Rattle.loader.proofs.fields.apk_timing_encode.Goals as goal
 
 pub returns-then-rate-eq0 : goal.returns-then-rate-eq0
-returns-then-rate-eq0 c = simp (← c.timing_encoded.ensures.0, ← c.timing_encoded.ensures.1, eq-eqb _ _ c.if-rate-eq0.true) (refl, refl)
+returns-then-rate-eq0 c = simp (← c.timing_encoded.ensures.answer, ← c.timing_encoded.ensures.bytes, eq-eqb _ _ c.if-rate-eq0.true) (record { answer = refl; bytes = refl })
 
 pub returns-in-Refused : goal.returns-in-Refused
 returns-in-Refused c =
-    simp (← c.number.ensures, c.in-Refused.is, ← c.from_int.ensures, ne_eqb _ _ c.if-rate-eq0.false) (refl, refl)
+    simp (← c.number.ensures, c.in-Refused.is, ← c.from_int.ensures, ne_eqb _ _ c.if-rate-eq0.false) (record { answer = refl; bytes = refl })
 
 pub returns-in-Made : goal.returns-in-Made
 returns-in-Made c =

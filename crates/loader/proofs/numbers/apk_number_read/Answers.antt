@@ -5,7 +5,7 @@ use Rattle.loader.proofs.numbers.apk_number_read.Goals as goal
 
 pub returns-in-Refused : goal.returns-in-Refused
 returns-in-Refused c =
-    simp (← c.number.ensures, c.in-Refused.is, ← c.read_u7.ensures, ← c.rules.ensures) (refl, (refl, (refl, refl)))
+    simp (← c.number.ensures, c.in-Refused.is, ← c.read_u7.ensures, ← c.rules.ensures) (record { answer = refl; value = refl; next = refl; padding = refl })
 
 pub returns-in-Number : goal.returns-in-Number
-returns-in-Number c = simp (c.in-Number.is, ← c.read_u7.ensures, ← c.rules.ensures) (refl, (refl, (refl, refl)))
+returns-in-Number c = simp (c.in-Number.is, ← c.read_u7.ensures, ← c.rules.ensures) (record { answer = refl; value = refl; next = refl; padding = refl })

@@ -5,7 +5,7 @@ use Rattle.loader_track.proofs.events.apk_event_length.Goals as goal
 
 pub returns-in-Refused : goal.returns-in-Refused
 returns-in-Refused c =
-    simp (← c.rules.ensures, ← c.row_length.ensures, c.in-Refused.is) (c.number.ensures, (refl, refl))
+    simp (← c.rules.ensures, ← c.row_length.ensures, c.in-Refused.is) (record { answer = c.number.ensures; length = refl; after = refl })
 
 pub returns-in-Length : goal.returns-in-Length
-returns-in-Length c = simp (← c.rules.ensures, ← c.row_length.ensures, c.in-Length.is) (refl, (refl, refl))
+returns-in-Length c = simp (← c.rules.ensures, ← c.row_length.ensures, c.in-Length.is) (record { answer = refl; length = refl; after = refl })

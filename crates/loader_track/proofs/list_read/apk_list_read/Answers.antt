@@ -14,7 +14,7 @@ returns-in-Refused c =
     let l = list_given a.bits a.running a.bytes.now a.at in
     let e = rw (c.rules.ensures, f.1) at c.read_rows.ensures in
     let there = rows_refused l (sheet_put l a.rows.now).answer (number_of f.0.0) (ap (λ (s : SheetRead). s.answer) e) in
-    rw (← there) (c.number.ensures, (ap (λ (s : SheetRead). s.cells) e, (refl, (refl, (refl, refl)))))
+    rw (← there) (record { answer = c.number.ensures; rows = ap (λ (s : SheetRead). s.cells) e; count = refl; place = refl; after = refl; padding = refl })
 
 pub returns-in-Rows : goal.returns-in-Rows
 returns-in-Rows c =
@@ -24,4 +24,4 @@ returns-in-Rows c =
     let e = rw (c.rules.ensures, f.1) at c.read_rows.ensures in
     let there = rows_read_lem l (sheet_put l a.rows.now).answer (rows_read f.0.0) (ap (λ (s : SheetRead). s.answer) e) in
     rw (← there.1)
-    (c.stop_number.ensures ∙ ap (λ (x : SheetAt). stop_number x.stop) there.2, (ap (λ (s : SheetRead). s.cells) e, (ap (λ (x : SheetAt). x.count) there.2, (ap (λ (x : SheetAt). x.place) there.2, (ap (λ (x : SheetAt). x.running) there.2, ap (λ (x : SheetAt). x.padding) there.2)))))
+    (record { answer = c.stop_number.ensures ∙ ap (λ (x : SheetAt). stop_number x.stop) there.2; rows = ap (λ (s : SheetRead). s.cells) e; count = ap (λ (x : SheetAt). x.count) there.2; place = ap (λ (x : SheetAt). x.place) there.2; after = ap (λ (x : SheetAt). x.running) there.2; padding = ap (λ (x : SheetAt). x.padding) there.2 })

@@ -5,7 +5,7 @@ use Rattle.loader_track.proofs.list_write.apk_list_length.Goals as goal
 
 pub returns-in-Refused : goal.returns-in-Refused
 returns-in-Refused c =
-    simp (← c.rows_length.ensures, ← c.rules.ensures, c.in-Refused.is) (c.number.ensures, (refl, (refl, refl)))
+    simp (← c.rows_length.ensures, ← c.rules.ensures, c.in-Refused.is) (record { answer = c.number.ensures; length = refl; after = refl; index = refl })
 
 pub returns-in-Length : goal.returns-in-Length
-returns-in-Length c = simp (← c.rows_length.ensures, ← c.rules.ensures, c.in-Length.is) (refl, (refl, (refl, refl)))
+returns-in-Length c = simp (← c.rows_length.ensures, ← c.rules.ensures, c.in-Length.is) (record { answer = refl; length = refl; after = refl; index = refl })

@@ -5,8 +5,8 @@ use Rattle.loader_track.proofs.list_write.apk_list_write.Goals as goal
 
 pub returns-in-Refused : goal.returns-in-Refused
 returns-in-Refused c =
-    simp (← c.write_rows.ensures, ← c.rules.ensures, c.in-Refused.is) (c.number.ensures, (refl, (refl, (refl, refl))))
+    simp (← c.write_rows.ensures, ← c.rules.ensures, c.in-Refused.is) (record { answer = c.number.ensures; buffer = refl; length = refl; after = refl; index = refl })
 
 pub returns-in-Length : goal.returns-in-Length
 returns-in-Length c =
-    simp (← c.write_rows.ensures, ← c.rules.ensures, c.in-Length.is) (refl, (refl, (refl, (refl, refl))))
+    simp (← c.write_rows.ensures, ← c.rules.ensures, c.in-Length.is) (record { answer = refl; buffer = refl; length = refl; after = refl; index = refl })
