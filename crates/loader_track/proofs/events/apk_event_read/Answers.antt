@@ -37,11 +37,11 @@ returns-in-Refused c =
     let a = c.args in
     let p = rw (c.in-Refused.is, c.rules.ensures) at c.read_row.ensures in
     let e = parts (event_at (from_bits a.bits) a.running a.bytes.now a.at) in
-    (record { answer = c.number.ensures ∙ ap number p.0 ∙ e.0; row = p.1; used = ap bytes p.0 ∙ e.1; after = ap status p.0 ∙ e.2; padding = ap pad p.0 ∙ e.3 })
+    (record { answer = c.number.ensures ∙ ap number p.answer ∙ e.0; row = p.row; used = ap bytes p.answer ∙ e.1; after = ap status p.answer ∙ e.2; padding = ap pad p.answer ∙ e.3 })
 
 pub returns-in-Row : goal.returns-in-Row
 returns-in-Row c =
     let a = c.args in
     let p = rw (c.in-Row.is, c.rules.ensures) at c.read_row.ensures in
     let e = parts (event_at (from_bits a.bits) a.running a.bytes.now a.at) in
-    (record { answer = ap number p.0 ∙ e.0; row = p.1; used = ap bytes p.0 ∙ e.1; after = ap status p.0 ∙ e.2; padding = ap pad p.0 ∙ e.3 })
+    (record { answer = ap number p.answer ∙ e.0; row = p.row; used = ap bytes p.answer ∙ e.1; after = ap status p.answer ∙ e.2; padding = ap pad p.answer ∙ e.3 })
