@@ -9,4 +9,4 @@ pub returns : goal.returns
 returns c =
     let a = c.args in
     let r = c.same_rows in
-    handed (rows_asked a.row_a.now a.row_b.now) (Same a.bytes_a.now (called_row a.row_a.now) a.bytes_b.now (called_row a.row_b.now)) r.result _ _ _ c.hand_out.ensures.0 c.hand_out.ensures.1 r.ensures
+    handed (rows_asked a.row_a.now a.row_b.now) (Same a.bytes_a.now (called_row a.row_a.now) a.bytes_b.now (called_row a.row_b.now)) r.result _ _ _ c.hand_out.ensures.answer c.hand_out.ensures.same r.ensures

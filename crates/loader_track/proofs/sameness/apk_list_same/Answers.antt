@@ -10,4 +10,4 @@ pub returns : goal.returns
 returns c =
     let a = c.args in
     let r = c.same_row_lists-answer in
-    handed (lists_asked capacity a.rows_a.now a.count_a a.rows_b.now a.count_b) (SameList a.bytes_a.now (called_rows a.count_a a.rows_a.now) a.count_a a.bytes_b.now (called_rows a.count_b a.rows_b.now) a.count_b) r.result _ _ _ c.hand_out.ensures.0 c.hand_out.ensures.1 r.ensures
+    handed (lists_asked capacity a.rows_a.now a.count_a a.rows_b.now a.count_b) (SameList a.bytes_a.now (called_rows a.count_a a.rows_a.now) a.count_a a.bytes_b.now (called_rows a.count_b a.rows_b.now) a.count_b) r.result _ _ _ c.hand_out.ensures.answer c.hand_out.ensures.same r.ensures
