@@ -36,7 +36,7 @@ use Rattle.player.proofs.Silencing as silencing
 use Rattle.player.proofs.TableBytes.{shaped_in}
 use Rattle.player.proofs.Steps.{all_joined}
 use Rattle.player.proofs.Sums.{none_left, in_turn, counts_sum}
-use Rattle.player.specs.contracts.table.counts as Counts-of
+use Rattle.player.proofs.table.counts as Counts-of
 use Rattle.claims.specs.Calls.{first, second, third, fourth, fifth}
 use Rattle.claims.specs.Sounding.{events_in, Joins, Legal, off, Silenced, Names, next_channel, next_key, InTurn, over, none, more, ListGiven, RowsGiven, Sounding}
 use Rattle.claims.proofs.Calls as calls
