@@ -16,7 +16,7 @@ use Rattle.loader.specs.Entry as entry
 use Rattle.loader.specs.Entry.{from_bits, answered}
 use Rattle.bank.specs.Bank.{most_tracks, encode_bank, IsBank}
 use Rattle.bank.specs.Read.{ranges, read_bank, track_at}
-use Rattle.bank.specs.Write.{tracks_of, ranges_bank, write_bank}
+use Rattle.bank.specs.Write.{ranges_bank, write_bank}
 use Rattle.bank.specs.Answers.{held_tracks}
 use Rattle.bank.specs.Entries.{cells_of, range_in, ranges_in}
 use Rattle.bank.proofs.Filling.{ranges_length}

@@ -26,7 +26,6 @@ use Rattle.bank.specs.Write.{tracks_of, write_bank}
 use Rattle.bank.specs.Answers.{ListAnswer, spans_of, verdict_of, bank_answer, bank_read, bank_track, list_answer, listed_track, bank_wrote, bank_left}
 use Rattle.bank.specs.declared.Verdict.TheVariants as verdict
 use Rattle.bank.specs.declared.read.ReadBank.{ReadBank}
-use Rattle.bank.specs.declared.read.BankTrack.TheVariants as track
 use Rattle.bank.specs.declared.list.ListedTrack.{ListedTrack}
 use Rattle.bank.specs.declared.writing.WroteBank.{WroteBank}
 use Rattle.bank.specs.declared.writing.WroteBank.TheVariants as wrote

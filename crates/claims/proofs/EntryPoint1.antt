@@ -12,9 +12,9 @@ use lib.ListN.{length, drop}
 use Rattle.smf.specs.Answer.{Answer, gives, refuses, and_then, Rules}
 use Rattle.smf.specs.Number.{read_number}
 use Rattle.smf.specs.Place.{NumberAt, PayloadAt, Span, number_at, payload_at, inside, bytes_of}
-use Rattle.smf.specs.Write.{put, write, number_bytes, payload_bytes}
+use Rattle.smf.specs.Write.{write, number_bytes, payload_bytes}
 use Rattle.smf.specs.Header.{is_format, to_format, read_format, read_timing, encode_timing}
-use Rattle.smf.specs.Smpte.{Time, time, to_rate, code_of_rate, to_time, time_of, encode_time, position}
+use Rattle.smf.specs.Smpte.{Time, to_rate, code_of_rate, to_time, time_of, encode_time, position}
 use Rattle.smf.specs.Seconds.{rate_float, seconds_of}
 use Rattle.smf.specs.Bend.{ask_bend, ask_float}
 use Rattle.smf.specs.Event.{ReadAt, reads_at, refused_at, event_at}
@@ -47,7 +47,7 @@ use Rattle.claims.specs.Calls.{Lent, first, second, third, fourth, fifth, sixth,
 use Rattle.claims.specs.Table.{among, OneOf, By, of_number, of_payload, of_event, of_length, of_bank, of_bank_track, of_bank_writing}
 use Rattle.claims.specs.Stands.{status_left, EventOrLeft, Why, ListStands}
 use Rattle.claims.specs.EntrySays.{Unchanged, Outcome, AnswersBy}
-use Rattle.claims.specs.EntryPoint1.{NumberRefusals, FieldRefusals, TimeRefusals, BendRefusals, TrackRefusals, SameRefusals, HandedOut, ListTold, SoundingRefusals, BankRefusals, EntryPoint1}
+use Rattle.claims.specs.EntryPoint1.{NumberRefusals, FieldRefusals, TimeRefusals, BendRefusals, TrackRefusals, SameRefusals, ListTold, SoundingRefusals, BankRefusals, EntryPoint1}
 use Rattle.claims.proofs.Refusals.{all_among, then_by, by_more, one_of_more, number_at_by, payload_at_by, format_by, rate_by, timing_by, timing_bytes_by, time_by, time_of_by, time_bytes_by, seconds_by, position_by, bend_by, bend_float_by, number_bytes_by, payload_bytes_by, write_keeps, row_by, event_length_by}
 use Rattle.claims.proofs.ReadLeaves.{event_or_left}
 use Rattle.claims.proofs.Stands.{list-stands}

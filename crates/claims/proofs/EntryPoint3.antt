@@ -11,7 +11,7 @@ use Rattle.smf.specs.Answer.{Answer, gives, refuses, Rules, strict_of}
 use Rattle.smf.specs.Running.{is_running}
 use Rattle.smf.specs.Write.{over}
 use Rattle.smf.specs.Event.{Event, map_event, Same, encode_event, EventWritten, write_event}
-use Rattle.smf.specs.Lists.{listed, ListAt, ended, list_at, wrote, ListWritten, write_list, SameList}
+use Rattle.smf.specs.Lists.{listed, ListAt, list_at, wrote, ListWritten, write_list, SameList}
 use Rattle.smf.proofs.Answer.{by-test}
 use Rattle.smf.proofs.Write.{put_fits}
 use Rattle.smf.proofs.Event as smf

@@ -1,5 +1,5 @@
 -- The contract of `read_event` is the plain one by computation; the plain one answers the definition of an event that is read.
-use mathlib.Core.Path.{◌≡◌, refl, sym, ap, ◌∙◌, subst}
+use mathlib.Core.Path.{refl, sym, ap, ◌∙◌, subst}
 use Rattle.base.specs.Rules.{rules_of}
 use Rattle.event.specs.Lent.{read_running}
 use Rattle.event.proofs.IdenticalRunning.{leaves_identical}

@@ -102,7 +102,7 @@ module _ (t : Table) (channel key c k : ℕ) (hk : key < keys) (s : Sounds t cha
         λ c' k' m. let o = mem_of (off c' k') named m in before o.place (key_place c k) c' k' c k (sym o.own) own_off (full.1 o.place o.mem),
       ))
       (silenced_first capacity t (key_place channel key) (key_place c k) not_before (place_within c k s.channel_fits s.key_fits)
-      (rw (own_keys.channel, own_keys.key) s.not-nought))
+      (rw (own_keys.channel, own_keys.key) s.not_nought))
 
 pub names : (t : Table) (channel key : ℕ) → channel < channels → key < keys → Names t channel key (silence_from capacity t (key_place channel key))
 unfolding silence_from
@@ -124,7 +124,7 @@ names t channel key hc hk =
                 record {
                   channel_fits = place_channel p there;
                   key_fits = place_key p;
-                  not-nought = silenced_sounds capacity t place p o.mem;
+                  not_nought = silenced_sounds capacity t place p o.mem;
                   behind = λ b. omega (arith, place_before (p / keys) (p % keys) channel key (place_key p) b, rising_above place ps p rising o.mem);
                 },
               ),

@@ -1,7 +1,7 @@
 -- What the kit knows of a value of its type: a list's array is full, and the type of each `Unknown` is a byte; a table has all its channels and keys, and the ranges of a bank are as many as it may have tracks.
-use mathlib.Core.Path.{◌≡◌, sym, ◌∙◌}
+use mathlib.Core.Path.{◌≡◌}
 use mathlib.Core.List.{List, [], ◌∷◌, map}
-use lib.ListN.{length, length-map}
+use lib.ListN.{length}
 use contract.Lifetimes.{Lfts}
 use mir.Val.{Val}
 use denote.Array.{each}
@@ -73,7 +73,7 @@ record_types : (r : Record) (vs : List Val) → shadow ((record-type.the_field).
 record_types r vs p = kind_type r.event.kind _ p.1.1.0.1.1.1.0
 
 all_types : (rs : List Record) (us : List Val)
-    → shadow (each (record-type.the_field).row.Denot (record-type.the_field).row.own_val (map (record-type.the_field).into rs) us) → TypeBytes (map record_of rs)
+    → shadow (each (record-type.the_row).Denot (record-type.the_row).own_val rs us) → TypeBytes (map record_of rs)
 all_types [] us p = tt
 all_types (r ∷ rs) [] p = absurd p
 all_types (r ∷ rs) (u ∷ us) p = (record_types r (u ∷ []) p.0, all_types rs us p.1)
@@ -82,7 +82,7 @@ module _ (κs : Lfts 2) (a : Dens κs write_list_lem.Kinds.ps) (good : GoodsP κ
   pub full_list : length a.0.records ≡ capacity
   full_list =
       let parts = struct.owed list.the_type laws.the_laws a.0 (struct.val list.the_type laws.the_laws a.0 ∷ []) good.0 in
-      sym (length-map a.0.records _) ∙ parts.0.1.0.1
+      parts.0.1.0.1
 
   pub list_types : TypeBytes (map record_of a.0.records)
   list_types =

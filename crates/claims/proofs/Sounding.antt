@@ -15,7 +15,7 @@ use Rattle.smf.specs.Event as smf
 use Rattle.smf.specs.Event.{Event, map_event}
 use Rattle.smf.specs.Lists.{event_from, read_list, list_at, Held, filler, holding, ListHeld, held_as, records_judged, listed}
 use Rattle.smf.proofs.Lists.{list_read}
-use Rattle.smf.proofs.Answer.{by-test, by_answer, both}
+use Rattle.smf.proofs.Answer.{by-test, by_answer}
 use Rattle.base.specs.Rules.{rules_of}
 use Rattle.track.specs.List.{capacity, record_of, held_of}
 use Rattle.track.specs.Read.{list_read_of}
@@ -36,10 +36,8 @@ use Rattle.player.proofs.Silencing as silencing
 use Rattle.player.proofs.TableBytes.{shaped_in}
 use Rattle.player.proofs.Steps.{all_joined}
 use Rattle.player.proofs.Sums.{none_left, in_turn, counts_sum}
-use Rattle.player.specs.contracts.table.counts as Counts-of
 use Rattle.claims.specs.Calls.{first, second, third, fourth, fifth}
 use Rattle.claims.specs.Sounding.{events_in, Joins, Legal, off, Silenced, Names, next_channel, next_key, InTurn, over, none, more, ListGiven, RowsGiven, Sounding}
-use Rattle.claims.proofs.Calls as calls
 use Rattle.claims.proofs.Owned.{full_table}
 use Rattle.claims.proofs.Player.{accepted_by, silence_by, given_beside, refused_beside, never_nought, accepts, accepts_only, accepts_few, accepts_within, rows_accepts_few, rows_accepts_within, asks, asks_only}
 use Rattle.claims.proofs.LastNotes.{leaves_last}

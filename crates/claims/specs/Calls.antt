@@ -3,7 +3,7 @@
 -- A claim speaks of a call by the names of its parameters: the order in which they stand is written once for each function, here and, for the
 -- exported entries, in `EntryCalls.antt`.
 use Rattle.std.specs.Prelude.{◌≡◌, List, ℕ}
-use Rattle.std.specs.Borrow.{Bor}
+use Rattle.std.specs.Borrow.{MutBor}
 use borrow.Fn.Kinds.{GoodsP}
 use Rattle.base.specs.declared.Rules.{Rules}
 use Rattle.base.specs.declared.Running.{Running}
@@ -24,14 +24,14 @@ use Rattle.write.specs.declared.answer.ListLength as measured
 use Rattle.write.specs.declared.answer.WroteList.{WroteList}
 use Rattle.rows.specs.declared.lists.ReadRows.{ReadRows}
 use Rattle.rows.specs.declared.one.ReadRow.{ReadRow}
-use Rattle.number.specs.contracts.u28.read_u7 as read_u7
-use Rattle.number.specs.contracts.u28.write_varlen as write_varlen
+use Rattle.number.proofs.u28.read_u7 as read_u7
+use Rattle.number.proofs.u28.write_varlen as write_varlen
 use Rattle.number.proofs.payload.read_varlen_slice as read_varlen_slice
 use Rattle.number.proofs.payload.write_varlen_slice as write_varlen_slice
 use Rattle.number.proofs.payload.write_slice as write_slice
 use Rattle.meta.proofs.MetaMessage.read as read_meta_lem
-use Rattle.event.specs.contracts.TrackEvent.read as read_event_lem
-use Rattle.track.specs.contracts.list.EventList.read as read_list_lem
+use Rattle.event.proofs.TrackEvent.read as read_event_lem
+use Rattle.track.proofs.list.EventList.read as read_list_lem
 use Rattle.write.proofs.one.write_event as write_event_lem
 use Rattle.write.proofs.one.write_row as write_row
 use Rattle.write.proofs.records.list_length as list_length
@@ -109,7 +109,7 @@ pub record Lent (A : Type 0) : Type 0 where
   pub before : A
   pub after : A
 
-abbrev pub while_lent : {A : Type 0} → Bor A → Bor A → Lent A
+abbrev pub while_lent : {A : Type 0} → MutBor A → MutBor A → Lent A
 while_lent x y = record { before = x.now; after = y.now }
 
 -- what is shown together

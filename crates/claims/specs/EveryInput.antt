@@ -1,7 +1,6 @@
 -- Point 1: every byte string, flag and record gets an answer. What a function asks of its caller, by its own contract, holds of any arguments; so the
 -- checker's proof that it ends and answers as it promises is a proof for every input. A line for each public function, by its path.
--- `read_event` of `event`, to which the running status is lent as a struct, is walked by hand, so that the checker makes no such reading of its
--- contract: its line stands in `LentRunning.antt`.
+-- The line of `read_event` of `event`, to which the running status is lent as a struct, stands in `LentRunning.antt`.
 use Rattle.base.proofs as base
 use Rattle.number.proofs as number
 use Rattle.header.proofs as header

@@ -1,6 +1,6 @@
--- `read_event` of `event`, to which the running status is lent as a struct. It is walked by hand, so that the checker makes no plain reading of its
--- contract; but the contract itself is at hand, a statement in the program logic, and here it is held to a plain one. So the claims that every
--- input gets an answer, and that any two answers and final running statuses are identical, speak of this function too.
+-- `read_event` of `event`, to which the running status is lent as a struct. No reading of its contract by the checker is used here: the contract
+-- itself, a statement in the program logic, is held to a plain one. So the claims that every input gets an answer, and that any two answers and
+-- final running statuses are identical, speak of this function too.
 use Rattle.std.specs.Prelude.{◌≡◌, List, ℕ}
 use seplogic.Ra.Ura.{Ura}
 use base.Logic.{SProp, emp}

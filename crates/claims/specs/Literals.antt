@@ -9,7 +9,6 @@ use Rattle.smf.specs.Running.{is_running}
 use Rattle.smf.specs.Kind.{meta, end_of_track, unknown}
 use Rattle.smf.specs.Event.{Event, event, ReadAt, reads_at, refused_at, event_at, legal, encode_event}
 use Rattle.smf.specs.Lists.{records_judged, encode_list, ListAnswer, refuses_at}
-use Rattle.base.specs.Refusal.{number_of}
 use Rattle.base.specs.Restricted.{tried_u2, tried_u4, tried_u7, tried_u14, tried_u15, tried_u24}
 use Rattle.base.specs.Rules.{rules_of}
 use Rattle.base.specs.declared.Rules.{Rules}

@@ -19,7 +19,7 @@ use Rattle.header.proofs as header
 use Rattle.midi.specs.Bend.{bend_int, bend_f32, bend_f64}
 use Rattle.midi.proofs as midi
 use Rattle.meta.specs.Meta.{meta_read}
-use Rattle.event.specs.Event.{event_of, event_read}
+use Rattle.event.specs.Event.{event_read}
 use Rattle.track.specs.List.{capacity, record_of, held_of}
 use Rattle.track.specs.Read.{list_read_of}
 use Rattle.rows.specs.RowLists.{rows_judged}

@@ -69,7 +69,7 @@ Before channel key channel' key' = (channel < channel') ⊎ ((channel ≡ channe
 pub record Sounds (table : Table) (channel key c k : ℕ) : Type 0 where
   pub channel_fits : c < channels
   pub key_fits : k < keys
-  pub not-nought : entry table c k ≡ 0 → ⊥
+  pub not_nought : entry table c k ≡ 0 → ⊥
   pub behind : Before c k channel key → ⊥
 
 -- document 02, Q-1: a `NoteOff` for each sounding key, by channel, then key, the first 128, which is what a list holds, from a channel and key asked for

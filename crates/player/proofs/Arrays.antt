@@ -18,7 +18,7 @@ use Rattle.player.proofs.Tables.{Shaped}
 abbrev Channel : RattleType
 Channel = Array (UInt w8) keys
 
-rows_full : (t : Table) (us : List Val) → shadow (each Channel.Denot Channel.own t us) → (c : ℕ) → c < length t → length (get_or t c []) ≡ keys
+rows_full : (t : Table) (us : List Val) → shadow (each Channel.Denot Channel.own_val t us) → (c : ℕ) → c < length t → length (get_or t c []) ≡ keys
 rows_full [] us p c h = absurd (not-suc-le-zero h)
 rows_full (row ∷ t) [] p c h = absurd p
 rows_full (row ∷ t) (u ∷ us) p zero h = good_length (e_int w8) keys row (u ∷ []) p.0
