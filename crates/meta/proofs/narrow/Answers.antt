@@ -14,7 +14,6 @@ use Rattle.base.specs.Rules.{rules_of}
 use Rattle.number.specs.Payload.{payload_of}
 use Rattle.meta.specs.Meta.{span_of}
 use Rattle.meta.proofs.Limits.{form_narrow, limit_some}
-use borrow.Author.Rules.{rules}
 use Rattle.meta.proofs.narrow.Goals as goal
 
 -- such a message has no payload
@@ -26,26 +25,26 @@ kept span false n = refl
 pub returns-then-range-lt1 : goal.returns-then-range-lt1
 unfolding map_meta
 returns-then-range-lt1 c =
-    c.message.ensures ∙ short (rules_of c.args.rules) c.args.raw.now (λ i. (c.shared_slice_known-1.given i).fits) (payload_of c.args.load) c.requires.0 c.args.type-byte 1 _ (form_narrow c.requires.1 _ _) c.if-range-lt1.true
+    c.message.ensures ∙ short (rules_of c.args.rules) c.args.raw.now (λ i. (c.type_inv.raw i).fits) (payload_of c.args.load) c.requires.0 c.args.type_byte 1 _ (form_narrow c.requires.1 _ _) c.if-range-lt1.true
 
 pub returns-then-byte-limit : goal.returns-then-byte-limit
 returns-then-byte-limit c =
-    let t = c.args.type-byte in
+    let t = c.args.type_byte in
     c.message-then-byte-limit.ensures
     ∙ rw (c.narrow_kind.ensures, ← kept (span_of c.args.load.range) (eqb t 0x20))
-    (fits_low (rules_of c.args.rules) c.args.raw.now (λ i. (c.shared_slice_known-1.given i).fits) (payload_of c.args.load) c.requires.0 t c.args.limit (λ n. pick (eqb t 0x20) (midi_channel n) (midi_port n)) (form_narrow c.requires.1 _ _) c.if-range-lt1.false c.if-byte-limit.true)
+    (fits_low (rules_of c.args.rules) c.args.raw.now (λ i. (c.type_inv.raw i).fits) (payload_of c.args.load) c.requires.0 t c.args.limit (λ n. pick (eqb t 0x20) (midi_channel n) (midi_port n)) (form_narrow c.requires.1 _ _) c.if-range-lt1.false c.if-byte-limit.true)
 
 pub returns-then-rules : goal.returns-then-rules
 returns-then-rules c =
-    let t = c.args.type-byte in
-    fits-strict (rules_of c.args.rules) c.args.raw.now (λ i. (c.shared_slice_known-1.given i).fits) (payload_of c.args.load) c.requires.0 t c.args.limit (λ n. pick (eqb t 0x20) (midi_channel n) (midi_port n)) (form_narrow c.requires.1 _ _) c.if-range-lt1.false c.if-byte-limit.false c.if-rules.true
+    let t = c.args.type_byte in
+    fits-strict (rules_of c.args.rules) c.args.raw.now (λ i. (c.type_inv.raw i).fits) (payload_of c.args.load) c.requires.0 t c.args.limit (λ n. pick (eqb t 0x20) (midi_channel n) (midi_port n)) (form_narrow c.requires.1 _ _) c.if-range-lt1.false c.if-byte-limit.false c.if-rules.true
 
 pub nonzero_rem-byte : goal.nonzero_rem-byte
 nonzero_rem-byte c = omega (arith, limit_some c.requires.1)
 
 pub returns : goal.returns
 returns c =
-    let t = c.args.type-byte in
+    let t = c.args.type_byte in
     c.message-2.ensures
     ∙ rw (c.narrow_kind-2.ensures, ← kept (span_of c.args.load.range) (eqb t 0x20))
-    (fits-lenient (rules_of c.args.rules) c.args.raw.now (λ i. (c.shared_slice_known-1.given i).fits) (payload_of c.args.load) c.requires.0 t c.args.limit (λ n. pick (eqb t 0x20) (midi_channel n) (midi_port n)) (form_narrow c.requires.1 _ _) c.if-range-lt1.false c.if-byte-limit.false c.if-rules.false)
+    (fits-lenient (rules_of c.args.rules) c.args.raw.now (λ i. (c.type_inv.raw i).fits) (payload_of c.args.load) c.requires.0 t c.args.limit (λ n. pick (eqb t 0x20) (midi_channel n) (midi_port n)) (form_narrow c.requires.1 _ _) c.if-range-lt1.false c.if-byte-limit.false c.if-rules.false)

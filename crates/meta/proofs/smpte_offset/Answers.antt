@@ -4,22 +4,21 @@ use Rattle.smf.proofs.CalledAt.{form_smpte, short, called-time, called-no-time}
 use Rattle.header.specs.Smpte.{tried_smpte_time}
 use Rattle.base.specs.Rules.{rules_of}
 use Rattle.number.specs.Payload.{payload_of}
-use borrow.Author.Rules.{rules}
 use Rattle.meta.proofs.smpte_offset.Goals as goal
 
 pub returns-then-range-lt5 : goal.returns-then-range-lt5
 returns-then-range-lt5 c =
     let a = c.args in
     c.message.ensures
-    ∙ short (rules_of a.rules) a.raw.now (λ i. (c.shared_slice_known-1.given i).fits) (payload_of a.load) c.requires 0x54 5 _ (form_smpte _ _) c.if-range-lt5.true
+    ∙ short (rules_of a.rules) a.raw.now (λ i. (c.type_inv.raw i).fits) (payload_of a.load) c.requires 0x54 5 _ (form_smpte _ _) c.if-range-lt5.true
 
 pub returns-in-Made : goal.returns-in-Made
 returns-in-Made c =
     let a = c.args in
     c.message-in-Made.ensures
-    ∙ called-time (rules_of a.rules) a.raw.now (λ i. (c.shared_slice_known-1.given i).fits) (payload_of a.load) c.requires c.if-range-lt5.false c.read.ensures (ap tried_smpte_time c.in-Made.is)
+    ∙ called-time (rules_of a.rules) a.raw.now (λ i. (c.type_inv.raw i).fits) (payload_of a.load) c.requires c.if-range-lt5.false c.read.ensures (ap tried_smpte_time c.in-Made.is)
 
 pub returns-in-Refused : goal.returns-in-Refused
 returns-in-Refused c =
     let a = c.args in
-    called-no-time (rules_of a.rules) a.raw.now (λ i. (c.shared_slice_known-1.given i).fits) (payload_of a.load) c.requires c.if-range-lt5.false c.read.ensures (ap tried_smpte_time c.in-Refused.is)
+    called-no-time (rules_of a.rules) a.raw.now (λ i. (c.type_inv.raw i).fits) (payload_of a.load) c.requires c.if-range-lt5.false c.read.ensures (ap tried_smpte_time c.in-Refused.is)

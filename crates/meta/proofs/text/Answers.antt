@@ -1,6 +1,5 @@
 -- `text` meets its contract, arm by arm.
 use mathlib.Core.Path.{◌≡◌}
-use Prim.Native.Nat.{ℕ, ◌+◌, ◌≤◌}
 use native.Mathlib.Omega.{arith}
 use Rattle.meta.proofs.text.Goals as goal
 
@@ -28,13 +27,7 @@ returns-in-7 c = rw c.in-7.is
 pub returns-in-8 : goal.returns-in-8
 returns-in-8 c = rw c.in-8.is
 
--- what is past n and is not n is past n + 1
-above : (n t : ℕ) → (t ≡ n → ⊥) → n ≤ t → n + 1 ≤ t
-above n t ne h = omega arith
-
 pub returns-in_default : goal.returns-in_default
 returns-in_default c =
-    let t = c.args.type-byte in
-    let h : 9 ≤ t = above 8 t c.in-1.rest.1 (above 7 t c.in-1.rest.0.1 (above 6 t c.in-1.rest.0.0.1 (above 5 t c.in-1.rest.0.0.0.1 (above 4 t c.in-1.rest.0.0.0.0.1 (above 3 t c.in-1.rest.0.0.0.0.0.1 (above 2 t c.in-1.rest.0.0.0.0.0.0.1 (above 1 t c.in-1.rest.0.0.0.0.0.0.0.1 c.requires.0))))))) in
-    let nine : t ≡ 9 = omega (arith, c.requires.1) in
+    let nine : c.args.type_byte ≡ 9 = omega arith in
     rw nine

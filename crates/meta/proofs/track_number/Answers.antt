@@ -7,9 +7,9 @@ use Rattle.meta.proofs.track_number.Goals as goal
 pub returns-then-load-ge2 : goal.returns-then-load-ge2
 returns-then-load-ge2 c =
     let a = c.args in
-    rw c.word.ensures (called_number (record { strict = true }) a.raw.now (λ i. (c.shared_slice_known-1.given i).fits) (payload_of a.load) c.requires c.if-load-ge2.true)
+    rw c.word.ensures (called_number (record { strict = true }) a.raw.now (λ i. (c.type_inv.raw i).fits) (payload_of a.load) c.requires c.if-load-ge2.true)
 
 pub returns-else-load-ge2 : goal.returns-else-load-ge2
 returns-else-load-ge2 c =
     let a = c.args in
-    called_no_number (record { strict = true }) a.raw.now (λ i. (c.shared_slice_known-1.given i).fits) (payload_of a.load) c.requires c.if-load-ge2.false
+    called_no_number (record { strict = true }) a.raw.now (λ i. (c.type_inv.raw i).fits) (payload_of a.load) c.requires c.if-load-ge2.false

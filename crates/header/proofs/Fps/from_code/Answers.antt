@@ -1,5 +1,6 @@
 -- `Fps::from_code` meets its contract: a code's low two bits, number by number.
 use mathlib.Core.Path.{◌≡◌}
+use Rattle.std.proofs.Common.{◌≢◌, arith}
 use borrow.Author.Tests.{ne_eqb}
 use Rattle.smf.specs.Smpte.{rate_of_code}
 use Rattle.smf.specs.Width.{low_bits}
@@ -24,4 +25,10 @@ returns-in-2 c = rw (← low (goal.at.returns-in-2 c).After-as_int-code, c.in-2.
 
 pub returns-in_default : goal.returns-in_default
 unfolding rate_of_code
-returns-in_default c = rw (← low (goal.at.returns-in_default c).After-as_int-code, ne_eqb _ _ c.in-0.rest.0.0.1, ne_eqb _ _ c.in-0.rest.0.1, ne_eqb _ _ c.in-0.rest.1)
+returns-in_default c =
+    let code = low_bits 2 c.args.code.0 in
+    let same = low (goal.at.returns-in_default c).After-as_int-code in
+    let not-0 : code ≢ 0 = omega (arith, same) in
+    let not-1 : code ≢ 1 = omega (arith, same) in
+    let not-2 : code ≢ 2 = omega (arith, same) in
+    rw (ne_eqb _ _ not-0, ne_eqb _ _ not-1, ne_eqb _ _ not-2)

@@ -10,25 +10,24 @@ use Rattle.smf.specs.Smpte.{Time, is_time, code_of_rate, time_bytes, encode_time
 use Rattle.smf.proofs.Smpte.{in_range, rate_coded}
 use Rattle.base.specs.Rules.{rules_of}
 use Rattle.header.specs.Smpte.{smpte_time_of}
-use borrow.Author.Rules.{rules}
 use Rattle.header.proofs.SmpteTime.encode.Goals as goal
-use Rattle.header.proofs.SmpteTime.encode.Goals.{After-as_int, Else-not-in_range}
+use Rattle.header.proofs.SmpteTime.encode.Goals.{After-as_int}
 
 pub returns-then-not-in_range : goal.returns-then-not-in_range
 unfolding encode_time
 returns-then-not-in_range c = rw (sym c.in_range.ensures ∙ c.if-not-in_range.true)
 
 -- the time is legal
-legal : (c : Else-not-in_range) → is_time (rules_of c.args.rules) (smpte_time_of c.args.self) ≡ true
+legal : (c : After-as_int) → is_time (rules_of c.args.rules) (smpte_time_of c.args.self) ≡ true
 legal c = sym c.in_range.ensures ∙ c.if-not-in_range.false
 
 -- the time that is written
-abbrev written : tie.After-as-int → Time
-written c = smpte_time_of c.before.before.before.before.args.self
+abbrev written : After-as_int → Time
+written c = smpte_time_of c.args.self
 
 -- the rules by which that time is judged
-abbrev ruled : tie.After-as-int → Rules
-ruled c = rules_of c.before.before.before.before.args.rules
+abbrev ruled : After-as_int → Rules
+ruled c = rules_of c.args.rules
 
 -- the rate code behind the hour's five bits
 first : (c : After-as_int) → bit_or (written c).hour (c.as_int.result * 32 % 256) ≡ code_of_rate (written c).rate * 32 + (written c).hour
@@ -41,4 +40,4 @@ first c =
 
 pub returns : goal.returns
 unfolding encode_time time_bytes
-returns c = rw (legal (goal.at.returns c).Else-not-in_range, first (goal.at.returns c).After-as_int)
+returns c = rw (legal (goal.at.returns c).After-as_int, first (goal.at.returns c).After-as_int)

@@ -8,25 +8,24 @@ use Rattle.smf.specs.Smpte.{Time, is_time, seconds, frames, subframes, position}
 use Rattle.smf.proofs.Smpte.{in_range, frames_below}
 use Rattle.base.specs.Rules.{rules_of}
 use Rattle.header.specs.Smpte.{smpte_time_of}
-use borrow.Author.Rules.{rules}
 use Rattle.header.proofs.SmpteTime.position.Goals as goal
-use Rattle.header.proofs.SmpteTime.position.Goals.{After-as_int, Else-not-in_range}
+use Rattle.header.proofs.SmpteTime.position.Goals.{After-as_int}
 
 pub returns-then-not-in_range : goal.returns-then-not-in_range
 unfolding position
 returns-then-not-in_range c = rw (sym c.in_range.ensures ∙ c.if-not-in_range.true)
 
 -- the time is legal
-legal : (c : Else-not-in_range) → is_time (rules_of c.args.rules) (smpte_time_of c.args.self) ≡ true
+legal : (c : After-as_int) → is_time (rules_of c.args.rules) (smpte_time_of c.args.self) ≡ true
 legal c = sym c.in_range.ensures ∙ c.if-not-in_range.false
 
 -- the time whose position is asked
-abbrev asked : tie.After-as-int → Time
-asked c = smpte_time_of c.before.before.before.before.before.before.args.self
+abbrev asked : After-as_int → Time
+asked c = smpte_time_of c.args.self
 
 -- the rules by which that time is judged
-abbrev ruled : tie.After-as-int → Rules
-ruled c = rules_of c.before.before.before.before.before.before.args.rules
+abbrev ruled : After-as_int → Rules
+ruled c = rules_of c.args.rules
 
 -- the frames that are counted
 below : (c : After-as_int) → seconds (asked c) * c.as_int.result + (asked c).frame < 2592000
@@ -51,4 +50,4 @@ overflow_add-subframes c = record { fits = omega (arith, below (goal.at.overflow
 
 pub returns : goal.returns
 unfolding position subframes frames seconds
-returns c = rw (legal (goal.at.returns c).Else-not-in_range, c.as_int.ensures)
+returns c = rw (legal (goal.at.returns c).After-as_int, c.as_int.ensures)

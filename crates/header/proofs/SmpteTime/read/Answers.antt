@@ -9,5 +9,5 @@ use Rattle.header.proofs.SmpteTime.read.Goals as goal
 pub returns : goal.returns
 unfolding time_of
 returns c =
-    let first = get_or c.args.t1 0 0 in
+    let first = get_or c.args.bytes 0 0 in
     c.new-2.ensures ∙ rw (and_mask first 5, c.from_code-fps.ensures, c.new.ensures, mod-mod)

@@ -6,7 +6,6 @@ use Rattle.smf.specs.Smpte.{is_time}
 use Rattle.smf.specs.Seconds.{second_float, seconds_of}
 use Rattle.base.specs.Rules.{rules_of}
 use Rattle.header.specs.Smpte.{smpte_time_of}
-use borrow.Author.Rules.{rules}
 use Rattle.header.proofs.SmpteTime.second_f32.Goals as goal
 use Rattle.header.proofs.SmpteTime.second_f32.Goals.{Else-not-in_range}
 

@@ -3,58 +3,46 @@ use mathlib.Core.Path.{◌≡◌, sym, subst, ap, ◌∙◌}
 use Prim.Native.Nat.{suc, ◌-◌, ◌<◌}
 use native.Mathlib.Omega.{arith}
 use lib.IntN.{ℤ, pos, ◌+ℤ◌, nat_abs}
-use lib.Signed.{mag, non_neg}
-use lib.Dec.{T}
+use lib.Signed.{mag}
 use borrow.Author.Tests.{le-ltb}
 use mir.Syntax.{w8, w16}
-use mir.Val.{Fits, to_z, of_z}
+use mir.Val.{SFits, to_z, of_z}
 use mir.Facts.{to_z-of_z, sfits_widen}
 use Rattle.smf.specs.Signed.{byte_of_signed}
 use Rattle.smf.proofs.Signed.{Below, Above, negative, natural}
 use Rattle.header.proofs.signed.to_byte.Goals as goal
-use Rattle.header.proofs.signed.to_byte.Goals.{Else-number-lt0, Then-number-lt0}
 
-pub overflow_cast-result : goal.overflow_cast-result
-overflow_cast-result c = rw (to_z-of_z {w = w8} c.ranges.number) (sfits_widen tt c.ranges.number)
+-- the number at the wider type is the number
+widened : (z : ℤ) → SFits w8 z → to_z w16 (of_z w16 (to_z w8 (of_z w8 z))) ≡ z
+widened z fits = rw (to_z-of_z {w = w8} fits) (to_z-of_z {w = w16} (sfits_widen tt fits))
 
--- the number is below 0
-below : (c : Then-number-lt0) → Below c.args.number
-below c = negative w8 c.args.number c.ranges.number c.if-number-lt0.true
+below-small : (z : ℤ) → SFits w8 z → (b : Below z) → b.n < 128
+below-small z fits b = subst (λ (y : ℤ). mag y < 128) b.is fits.sfits
 
-below-small : (c : Then-number-lt0) → (below c).n < 128
-below-small c = subst (λ (z : ℤ). mag z < 128) (below c).is c.ranges.number.sfits
+above-small : (z : ℤ) → SFits w8 z → (a : Above z) → a.n < 128
+above-small z fits a = subst (λ (y : ℤ). mag y < 128) a.is fits.sfits
 
--- the sum that is made
-and-256 : (c : Then-number-lt0) → to_z w16 (of_z w16 (to_z w8 (of_z w8 c.args.number))) +ℤ pos 256 ≡ pos (256 - suc (below c).n)
-and-256 c =
-    ap (λ (z : ℤ). z +ℤ pos 256) (to_z-of_z {w = w16} (cast-result c) ∙ to_z-of_z {w = w8} c.ranges.number ∙ (below c).is)
-    ∙ rw (le-ltb 256 (suc (below c).n) (omega (arith, below-small c)))
+-- the sum that is made of a number below 0, and what the machine makes of it: it fits
+and-256 : (z : ℤ) → SFits w8 z → (b : Below z) → to_z w16 (of_z w16 (to_z w8 (of_z w8 z))) +ℤ pos 256 ≡ pos (256 - suc b.n)
+and-256 z fits b =
+    ap (λ (y : ℤ). y +ℤ pos 256) (widened z fits ∙ b.is)
+    ∙ rw (le-ltb 256 (suc b.n) (omega (arith, below-small z fits b)))
 
-pub overflow_add-result : goal.overflow_add-result
-overflow_add-result c = rw (and-256 (goal.at.overflow_add-result c).Then-number-lt0) (record { sfits = omega arith })
+made : (z : ℤ) → SFits w8 z → (b : Below z) → to_z w16 (of_z w16 (to_z w16 (of_z w16 (to_z w8 (of_z w8 z))) +ℤ pos 256)) ≡ pos (256 - suc b.n)
+made z fits b =
+    let wide : SFits w16 (pos (256 - suc b.n)) = record { sfits = omega arith } in
+    rw (and-256 z fits b) (to_z-of_z {w = w16} wide)
 
-pub overflow_cast-result-then-number-lt0 : goal.overflow_cast-result-then-number-lt0
-overflow_cast-result-then-number-lt0 c = rw (to_z-of_z {w = w16} (add-result c), and-256 (goal.at.overflow_cast-result-then-number-lt0 c).Then-number-lt0) (tt, record { fits = omega arith })
+below-is : (z : ℤ) → SFits w8 z → (b : Below z) → nat_abs (to_z w16 (of_z w16 (to_z w16 (of_z w16 (to_z w8 (of_z w8 z))) +ℤ pos 256))) ≡ byte_of_signed z
+unfolding byte_of_signed
+below-is z fits b = ap nat_abs (made z fits b) ∙ omega (arith, below-small z fits b) ∙ sym (ap byte_of_signed b.is)
 
--- the number is not below 0
-above : (c : Else-number-lt0) → Above c.args.number
-above c = natural w8 c.args.number c.ranges.number c.if-number-lt0.false
-
-above-small : (c : Else-number-lt0) → (above c).n < 128
-above-small c = subst (λ (z : ℤ). mag z < 128) (above c).is c.ranges.number.sfits
-
-pub overflow_cast-result-else-number-lt0 : goal.overflow_cast-result-else-number-lt0
-overflow_cast-result-else-number-lt0 c =
-    subst (λ (z : ℤ). T (non_neg z) × Fits w8 (nat_abs z)) (sym (to_z-of_z {w = w8} c.ranges.number ∙ (above (goal.at.overflow_cast-result-else-number-lt0 c).Else-number-lt0).is))
-    (tt, record { fits = omega (arith, above-small (goal.at.overflow_cast-result-else-number-lt0 c).Else-number-lt0) })
+above-is : (z : ℤ) → SFits w8 z → (a : Above z) → nat_abs (to_z w8 (of_z w8 z)) ≡ byte_of_signed z
+unfolding byte_of_signed
+above-is z fits a = ap nat_abs (to_z-of_z {w = w8} fits ∙ a.is) ∙ sym (ap byte_of_signed a.is)
 
 pub returns-then-number-lt0 : goal.returns-then-number-lt0
-unfolding byte_of_signed
-returns-then-number-lt0 c =
-    ap nat_abs (to_z-of_z {w = w16} (add-result c) ∙ and-256 (goal.at.returns-then-number-lt0 c).Then-number-lt0)
-    ∙ omega (arith, below-small (goal.at.returns-then-number-lt0 c).Then-number-lt0)
-    ∙ sym (ap byte_of_signed (below (goal.at.returns-then-number-lt0 c).Then-number-lt0).is)
+returns-then-number-lt0 c = below-is c.args.number c.ranges.number (negative w8 c.args.number c.ranges.number c.if-number-lt0.true)
 
 pub returns-else-number-lt0 : goal.returns-else-number-lt0
-unfolding byte_of_signed
-returns-else-number-lt0 c = ap nat_abs (to_z-of_z {w = w8} c.ranges.number ∙ (above (goal.at.returns-else-number-lt0 c).Else-number-lt0).is) ∙ sym (ap byte_of_signed (above (goal.at.returns-else-number-lt0 c).Else-number-lt0).is)
+returns-else-number-lt0 c = above-is c.args.number c.ranges.number (natural w8 c.args.number c.ranges.number c.if-number-lt0.false)

@@ -6,8 +6,10 @@ use Rattle.midi.proofs.PitchBend.as_f64.Goals as goal
 pub returns-in-Value : goal.returns-in-Value
 unfolding of_bits div round
 returns-in-Value c =
-    given binary64 c.args.self.0.0 c.as_int.ensures c.in-Value.is
+    let g = given binary64 c.args.self.0.0 c.as_int.ensures c.in-Value.is in
+    record { result_value = g.0; exact = g.1 }
 
 pub returns-in-Refused : goal.returns-in-Refused
 returns-in-Refused c =
-    refused binary64 c.args.self.0.0 c.as_int.ensures c.in-Refused.is
+    let r = refused binary64 c.args.self.0.0 c.as_int.ensures c.in-Refused.is in
+    record { result_value = r.0; exact = r.1 }

@@ -9,7 +9,7 @@ pub truncating_f32_to_i64-requires : goal.truncating_f32_to_i64-requires
 unfolding of_bits
 truncating_f32_to_i64-requires c =
     let p = product binary32 c.args.float c.well_formed.0.1 c.clamp_f32.ensures in
-    (p.above, p.below)
+    record { lower_bound = p.above; upper_bound = p.below }
 
 pub overflow_cast-truncating_f32_to_i64 : goal.overflow_cast-truncating_f32_to_i64
 unfolding of_bits

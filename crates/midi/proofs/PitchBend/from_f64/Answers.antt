@@ -9,7 +9,7 @@ pub truncating_f64_to_i64-requires : goal.truncating_f64_to_i64-requires
 unfolding of_bits
 truncating_f64_to_i64-requires c =
     let p = product binary64 c.args.float c.well_formed.0.1 c.clamp_f64.ensures in
-    (p.above, p.below)
+    record { lower_bound = p.above; upper_bound = p.below }
 
 pub overflow_cast-truncating_f64_to_i64 : goal.overflow_cast-truncating_f64_to_i64
 unfolding of_bits

@@ -8,7 +8,7 @@ use Rattle.midi.proofs.PitchBend.from_int.Goals.{After-clamp_int}
 sum_is : (c : After-clamp_int) → to_z w16 (of_z w16 c.clamp_int.result) +ℤ pos 8192 ≡ pos (raw_bend c.args.int)
 sum_is c =
     ap (λ (z : ℤ). z +ℤ pos 8192)
-    (to_z-of_z {w = w16} {z = c.clamp_int.result} (record { sfits = c.clamp_int.type-inv })
+    (to_z-of_z {w = w16} {z = c.clamp_int.result} (record { sfits = c.clamp_int.type_inv })
     ∙ c.clamp_int.ensures
     ∙ ap clamped (to_z-of_z {w = w16} c.ranges.int))
     ∙ raw_is c.args.int
@@ -20,7 +20,7 @@ pub overflow_add-clamp_int : goal.overflow_add-clamp_int
 overflow_add-clamp_int c = rw (sum_is (goal.at.overflow_add-clamp_int c).After-clamp_int) (in_range c.args.int)
 
 held : (c : After-clamp_int) → to_z w16 (of_z w16 (to_z w16 (of_z w16 c.clamp_int.result) +ℤ pos 8192)) ≡ pos (raw_bend c.args.int)
-held c = to_z-of_z {w = w16} (add-new c) ∙ sum_is c
+held c = to_z-of_z {w = w16} (rw (sum_is c) (in_range c.args.int)) ∙ sum_is c
 
 pub overflow_cast-clamp_int : goal.overflow_cast-clamp_int
 overflow_cast-clamp_int c = rw (held (goal.at.overflow_cast-clamp_int c).After-clamp_int) (tt, record { fits = omega (arith, raw_small c.args.int) })

@@ -29,4 +29,4 @@ returns-in-2 c = sym (decided (goal.at.returns-in-2 c).After-word-format ∙ ap 
 
 pub returns-in_default : goal.returns-in_default
 unfolding to_format is_format
-returns-in_default c = sym (decided (goal.at.returns-in_default c).After-word-format ∙ rw (lt-leb c.word-format.result 2 (omega (arith, c.in-0.rest))))
+returns-in_default c = sym (decided (goal.at.returns-in_default c).After-word-format ∙ rw (lt-leb c.word-format.result 2 (omega arith)))
