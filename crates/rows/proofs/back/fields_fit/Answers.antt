@@ -1,4 +1,5 @@
 -- `fields_fit` meets its contract, number by number.
+use native.Mathlib.Omega.{arith}
 use borrow.Author.Tests.{lt-ltb, le-ltb, ne_eqb}
 use Rattle.rows.specs.RowEvent.{fields_fit}
 use Rattle.rows.proofs.back.fields_fit.Goals as goal
@@ -90,5 +91,4 @@ returns-in-512 c = rw c.in-512.is
 pub returns-in_default : goal.returns-in_default
 unfolding fields_fit
 returns-in_default c =
-    let m = c.in-8 in
-    rw (ne_eqb _ _ m.rest.0.0.0.0.0.0.0.0.0.0.0.0.0.0.0.0.0.0.1, ne_eqb _ _ m.rest.0.0.0.0.0.0.0.0.0.0.0.0.0.0.0.0.0.1, ne_eqb _ _ m.rest.0.0.0.0.0.0.0.0.0.0.0.0.0.0.0.0.1, ne_eqb _ _ m.rest.0.0.0.0.0.0.0.0.0.0.0.0.0.0.0.1, ne_eqb _ _ m.rest.0.0.0.0.0.0.0.0.0.0.0.0.0.0.1, ne_eqb _ _ m.rest.0.0.0.0.0.0.0.0.0.0.0.0.0.1, ne_eqb _ _ m.rest.0.0.0.0.0.0.0.0.0.0.0.0.1, ne_eqb _ _ m.rest.0.0.0.0.0.0.0.0.0.0.0.1, ne_eqb _ _ m.rest.0.0.0.0.0.0.0.0.0.0.1, ne_eqb _ _ m.rest.0.0.0.0.0.0.0.0.0.1, ne_eqb _ _ m.rest.0.0.0.0.0.0.0.0.1, ne_eqb _ _ m.rest.0.0.0.0.0.0.0.1, ne_eqb _ _ m.rest.0.0.0.0.0.0.1, ne_eqb _ _ m.rest.0.0.0.0.0.1, ne_eqb _ _ m.rest.0.0.0.0.1, ne_eqb _ _ m.rest.0.0.0.1, ne_eqb _ _ m.rest.0.0.1, ne_eqb _ _ m.rest.0.1, ne_eqb _ _ m.rest.1) c.is_text.ensures
+    rw (ne_eqb c.args.number 8 (λ q. omega arith), ne_eqb c.args.number 9 (λ q. omega arith), ne_eqb c.args.number 10 (λ q. omega arith), ne_eqb c.args.number 11 (λ q. omega arith), ne_eqb c.args.number 12 (λ q. omega arith), ne_eqb c.args.number 13 (λ q. omega arith), ne_eqb c.args.number 14 (λ q. omega arith), ne_eqb c.args.number 0xF0 (λ q. omega arith), ne_eqb c.args.number 0xF7 (λ q. omega arith), ne_eqb c.args.number 0x100 (λ q. omega arith), ne_eqb c.args.number 0x120 (λ q. omega arith), ne_eqb c.args.number 0x121 (λ q. omega arith), ne_eqb c.args.number 0x12F (λ q. omega arith), ne_eqb c.args.number 0x151 (λ q. omega arith), ne_eqb c.args.number 0x154 (λ q. omega arith), ne_eqb c.args.number 0x158 (λ q. omega arith), ne_eqb c.args.number 0x159 (λ q. omega arith), ne_eqb c.args.number 0x17F (λ q. omega arith), ne_eqb c.args.number 0x200 (λ q. omega arith)) c.is_text.ensures

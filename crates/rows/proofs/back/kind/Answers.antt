@@ -7,7 +7,9 @@ use Rattle.rows.proofs.Fitting.{low}
 use Rattle.rows.proofs.back.kind.Goals as goal
 
 pub midi-requires : goal.midi-requires
-midi-requires c = let a = c.args in (sym (low a.number a.a a.b a.c a.d a.e a.f c.if-number-lt15.true) ∙ c.requires, c.if-number-lt15.true)
+midi-requires c =
+    let a = c.args in
+    record { c_value = sym (low a.number a.a a.b a.c a.d a.e a.f c.if-number-lt15.true) ∙ c.requires; number_bound = c.if-number-lt15.true }
 
 pub returns-then-number-lt15 : goal.returns-then-number-lt15
 unfolding row_kind

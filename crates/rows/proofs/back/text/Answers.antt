@@ -46,5 +46,5 @@ pub returns-in_default : goal.returns-in_default
 returns-in_default c =
     let n = c.args.number in
     let p = text_range n c.requires in
-    let q : n ≡ 0x109 = last n p c.in-257.rest.0.0.0.0.0.0.0.1 c.in-257.rest.0.0.0.0.0.0.1 c.in-257.rest.0.0.0.0.0.1 c.in-257.rest.0.0.0.0.1 c.in-257.rest.0.0.0.1 c.in-257.rest.0.0.1 c.in-257.rest.0.1 c.in-257.rest.1 in
+    let q : n ≡ 0x109 = last n p (λ q. omega arith) (λ q. omega arith) (λ q. omega arith) (λ q. omega arith) (λ q. omega arith) (λ q. omega arith) (λ q. omega arith) (λ q. omega arith) in
     rw q

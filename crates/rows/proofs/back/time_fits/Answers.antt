@@ -1,4 +1,5 @@
 -- `time_fits` meets its contract, rate by rate.
+use native.Mathlib.Omega.{arith}
 use borrow.Author.Tests.{ne_eqb}
 use Rattle.smf.specs.Smpte.{is_rate}
 use Rattle.rows.specs.RowEvent.{time_fits}
@@ -22,4 +23,4 @@ returns-in-30 c = rw c.in-30.is c.are_bytes-bytes.ensures
 
 pub returns-in_default : goal.returns-in_default
 unfolding time_fits is_rate
-returns-in_default c = rw (ne_eqb _ _ c.in-24.rest.0.0.0.1, ne_eqb _ _ c.in-24.rest.0.0.1, ne_eqb _ _ c.in-24.rest.0.1, ne_eqb _ _ c.in-24.rest.1)
+returns-in_default c = rw (ne_eqb c.args.rate 24 (λ q. omega arith), ne_eqb c.args.rate 25 (λ q. omega arith), ne_eqb c.args.rate 29 (λ q. omega arith), ne_eqb c.args.rate 30 (λ q. omega arith))

@@ -15,8 +15,8 @@ use Rattle.rows.proofs.lists.fit_rows.Goals as goal
 use Rattle.rows.proofs.lists.fit_rows.Goals.{After-lay_rows-read}
 
 -- the list that is read, and cells for a full one
-abbrev list : tie.After-lay-rows → ListAt
-list c = let a = c.before.before.before.before.args in list_at (rules_of a.rules) capacity a.running.status a.raw.now a.at
+abbrev list : After-lay_rows-read → ListAt
+list c = let a = c.args in list_at (rules_of a.rules) capacity a.running.status a.raw.now a.at
 
 abbrev noughts : List ℕ
 noughts = replicate (capacity * width) 0
@@ -35,13 +35,15 @@ overflow_mul-n c = record { fits = omega (arith, counted (goal.at.overflow_mul-n
 
 pub returns-then-rows-n : goal.returns-then-rows-n
 returns-then-rows-n c =
-    short (list c) noughts _ (rows_read c.lay_rows-read.result) (enough (goal.at.returns-then-rows-n c).After-lay_rows-read) c.lay_rows-read.ensures c.args.rows.now c.if-rows-n.true
+    let p = (goal.at.returns-then-rows-n c).After-lay_rows-read in
+    short (list p) noughts _ (rows_read c.lay_rows-read.result) (enough p) c.lay_rows-read.ensures c.args.rows.now c.if-rows-n.true
 
 pub copy_cells-requires : goal.copy_cells-requires
 copy_cells-requires c =
-    (omega (arith, counted (goal.at.copy_cells-requires c).After-lay_rows-read, c.lay_rows-read.auto.1.1.1.1.0), omega arith)
+    (omega (arith, counted (goal.at.copy_cells-requires c).After-lay_rows-read, c.lay_rows-read.auto.rows), omega arith)
 
 pub returns : goal.returns
 returns c =
+    let p = (goal.at.returns c).After-lay_rows-read in
     rw c.copy_cells.ensures
-    (fitted (list c) noughts _ (rows_read c.lay_rows-read.result) (enough (goal.at.returns c).After-lay_rows-read) c.lay_rows-read.ensures c.args.rows.now c.if-rows-n.false)
+    (fitted (list p) noughts _ (rows_read c.lay_rows-read.result) (enough p) c.lay_rows-read.ensures c.args.rows.now c.if-rows-n.false)

@@ -13,20 +13,20 @@ use Rattle.rows.specs.Rows.{width}
 use Rattle.rows.specs.Read.{goes, laid_next}
 use Rattle.rows.proofs.RowCells.{next-room}
 use Rattle.rows.proofs.lists.lay_any.Goals as goal
-use Rattle.rows.proofs.lists.lay_any.Goals.{In-Event-2}
+use Rattle.rows.proofs.lists.lay_any.Goals.{In-Event}
 
 -- an event that is taken is one of those that a list holds
-room : (c : In-Event-2) → c.args.cursor.count < capacity
+room : (c : In-Event) → c.args.cursor.count < capacity
 room c =
     let a = c.args in
     next-room (rules_of a.rules) capacity a.raw.now (reader_of a.cursor) (sym c.next.ensures ∙ ap next_of c.in-Event.is)
 
 pub overflow_mul-cursor : goal.overflow_mul-cursor
-overflow_mul-cursor c = record { fits = omega (arith, room (goal.at.overflow_mul-cursor c).In-Event-2) }
+overflow_mul-cursor c = record { fits = omega (arith, room (goal.at.overflow_mul-cursor c).In-Event) }
 
 pub put_row-requires : goal.put_row-requires
 put_row-requires c =
-    omega (arith, room (goal.at.put_row-requires c).In-Event-2, c.requires)
+    omega (arith, room (goal.at.put_row-requires c).In-Event, c.requires)
 
 pub returns-in-Stop : goal.returns-in-Stop
 returns-in-Stop c =

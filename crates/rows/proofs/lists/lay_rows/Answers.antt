@@ -1,6 +1,5 @@
 -- The loop that reads a list into cells meets its contract: an invalid running status, its turns and its stops.
 use mathlib.Core.Path.{sym, ap, ◌∙◌}
-use mathlib.Core.Logic.{⊎_elim}
 use Prim.Native.Nat.{◌-◌}
 use native.Mathlib.Omega.{arith}
 use borrow.Author.Rules.{rules}
@@ -13,7 +12,7 @@ use Rattle.rows.specs.Read.{laid_of}
 use Rattle.rows.specs.declared.lists.Laid.{Laid}
 use Rattle.rows.proofs.RowCells.{unread, laying_first, laying_length, laying-more, laid, LaidOn, laid_on, laid_stop}
 use Rattle.rows.proofs.lists.lay_rows.Goals as goal
-use Rattle.rows.proofs.lists.lay_rows.Goals.{In-On-2}
+use Rattle.rows.proofs.lists.lay_rows.Goals.{In-On, then-is_valid+in-Stop, else-is_valid}
 
 pub loop-why-init : goal.loop-why-init
 loop-why-init c =
@@ -27,37 +26,39 @@ lay_next-requires c =
     (l.invariant.runs, omega (arith, laying_length room l.invariant, room))
 
 -- a step that was laid, by what the list takes
-on : (c : In-On-2) → let a = c.args in LaidOn (next_at (rules_of a.rules) capacity a.raw.now (reader_of c.loop-why.cursor)) c.loop-why.cursor.count c.loop-why.rows c.lay_next.new.1.1.1.0 c.in-On.next.padding (reader_of c.in-On.next.cursor)
+on : (c : In-On) → let a = c.args in LaidOn (next_at (rules_of a.rules) capacity a.raw.now (reader_of c.loop-why.cursor)) c.loop-why.cursor.count c.loop-why.rows c.lay_next.new.rows c.in-On.next.padding (reader_of c.in-On.next.cursor)
 on c =
     let a = c.args in
     laid_on (next_at (rules_of a.rules) capacity a.raw.now (reader_of c.loop-why.cursor)) c.loop-why.cursor.count
-    (ap (λ (m : Laid). laid_of m c.lay_next.new.1.1.1.0) (sym c.in-On.is) ∙ c.lay_next.ensures)
+    (ap (λ (m : Laid). laid_of m c.lay_next.new.rows) (sym c.in-On.is) ∙ c.lay_next.ensures)
 
 pub overflow_add-padding : goal.overflow_add-padding
 overflow_add-padding c =
     let s = c.loop-why.invariant.sofar in
-    let t = took s (on (goal.at.overflow_add-padding c).In-On-2).is in
+    let t = took s (on (goal.at.overflow_add-padding c).In-On).is in
     omega (arith, s.padded, t.padded, t.within)
 
 pub loop-why-smaller : goal.loop-why-smaller
 loop-why-smaller c =
-    let t = took c.loop-why.invariant.sofar (on (goal.at.loop-why-smaller c).In-On-2).is in
+    let t = took c.loop-why.invariant.sofar (on (goal.at.loop-why-smaller c).In-On).is in
     omega (arith, t.moved, t.within)
 
 pub loop-why-preserved : goal.loop-why-preserved
 loop-why-preserved c =
-    let o = on (goal.at.loop-why-preserved c).In-On-2 in
+    let o = on (goal.at.loop-why-preserved c).In-On in
     laying-more c.requires c.loop-why.invariant o.is _ o.put
 
 pub returns : goal.returns
 returns c =
     let a = c.args in
-    ⊎_elim
-    (λ w.
-    let stop = laid_stop (next_at (rules_of a.rules) capacity a.raw.now (reader_of w.1.cursor)) w.1.cursor.count
-    (ap (λ (m : Laid). laid_of m w.3.last.1.1.1.0) (sym w.7.given.1) ∙ w.3.ensures)
-    in
-    rw (w.9, w.10, w.11, w.12, stop.kept) (laid c.requires w.1.inv stop.is))
-    (λ w. rw (w.1, w.2, w.3, w.4)
-    (unread capacity (rules_of a.rules) a.raw.now a.at a.running.status a.rows.now (sym c.is_valid.ensures ∙ w.0.left)))
-    c.if-is_valid.branch
+    elim c.if-is_valid.branch [
+      | then-is_valid+in-Stop w ↦
+          let l = w.loop-why in
+          let stop = laid_stop (next_at (rules_of a.rules) capacity a.raw.now (reader_of l.cursor)) l.cursor.count
+          (ap (λ (m : Laid). laid_of m w.lay_next.new.rows) (sym w.in-Stop.is) ∙ w.lay_next.ensures)
+          in
+          rw (w.cursor-is, w.padding-is, w.stop-is, w.rows-is, stop.kept) (laid c.requires l.invariant stop.is)
+      | else-is_valid w ↦
+          rw (w.cursor-is, w.padding-is, w.stop-is, w.rows-is)
+          (unread capacity (rules_of a.rules) a.raw.now a.at a.running.status a.rows.now (sym c.is_valid.ensures ∙ w.if-is_valid.false))
+    ]

@@ -16,9 +16,9 @@ answered c is = sym (ap event_read is) ∙ c.read.ensures
 pub returns-in-Refused : goal.returns-in-Refused
 returns-in-Refused c =
     let e = answered (goal.at.returns-in-Refused c).After-read c.in-Refused.is in
-    (ap beside_row e, ap (λ (x : ReadAt). read_row x c.args.row.now) e)
+    record { answer = ap beside_row e; row = ap (λ (x : ReadAt). read_row x c.args.row.now) e }
 
 pub returns-in-Event : goal.returns-in-Event
 returns-in-Event c =
     let e = answered (goal.at.returns-in-Event c).After-read c.in-Event.is in
-    (ap beside_row e, c.event_row.ensures ∙ ap (λ (x : ReadAt). read_row x c.args.row.now) e)
+    record { answer = ap beside_row e; row = c.event_row.ensures ∙ ap (λ (x : ReadAt). read_row x c.args.row.now) e }

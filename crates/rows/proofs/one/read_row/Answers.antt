@@ -25,4 +25,4 @@ pub returns-then-used-ne0 : goal.returns-then-used-ne0
 returns-then-used-ne0 c =
     let a = c.args in
     let e = (found (goal.at.returns-then-used-ne0 c).Then-used-ne0).read (rules_of a.rules) in
-    (ap beside_row e, c.short_row.ensures ∙ ap (λ (x : ReadAt). read_row x a.row.now) e)
+    record { answer = ap beside_row e; row = c.short_row.ensures ∙ ap (λ (x : ReadAt). read_row x a.row.now) e }

@@ -1,12 +1,11 @@
 -- `short_at` meets its contract: no short event, or one whose status is its own byte or the running status.
 use mathlib.Core.Path.{◌∙◌}
-use mathlib.Core.Logic.{⊎_elim}
 use Prim.Native.Nat.{◌+◌, ◌≤◌, ◌<◌}
 use native.Mathlib.Omega.{arith}
 use lib.ListN.{length, get_or}
 use Rattle.rows.proofs.ShortReads.{short-own, short-under}
 use Rattle.rows.proofs.short.short_at.Goals as goal
-use Rattle.rows.proofs.short.short_at.Goals.{Else-status-eq0}
+use Rattle.rows.proofs.short.short_at.Goals.{Else-status-eq0, then-byte-ge128, else-byte-ge128}
 
 -- the four bytes that a short event can have are there
 four : (c : Else-status-eq0) → let a = c.args in a.at + 4 ≤ length a.raw.now
@@ -28,14 +27,20 @@ pub returns-then-status-eq0 : goal.returns-then-status-eq0
 returns-then-status-eq0 c = λ found. absurd (found c.other-then-status-eq0.ensures)
 
 pub short_data-requires : goal.short_data-requires
-short_data-requires c = ⊎_elim (λ w. (omega (arith, w.2), omega (arith, w.2, four (goal.at.short_data-requires c).Else-status-eq0))) (λ w. (omega (arith, w.2), omega (arith, w.2, four (goal.at.short_data-requires c).Else-status-eq0))) c.if-byte-ge128.branch
+short_data-requires c =
+    let f = four (goal.at.short_data-requires c).Else-status-eq0 in
+    elim c.if-byte-ge128.branch [
+      | then-byte-ge128 w ↦ (omega (arith, w.place-is), omega (arith, w.place-is, f))
+      | else-byte-ge128 w ↦ (omega (arith, w.place-is), omega (arith, w.place-is, f))
+    ]
 
 pub returns : goal.returns
 returns c =
     let a = c.args in
+    let f = four (goal.at.returns c).Else-status-eq0 in
     let small : get_or a.raw.now a.at 0 < 0x80 = omega (arith, c.if-raw-at-ge128.false) in
     λ found.
-    ⊎_elim
-    (λ w. short-own a.raw.now a.at a.running.status c.requires (four (goal.at.returns c).Else-status-eq0) small w.0.taken (omega (arith, c.if-byte-ge240.false)) (rw (w.1, w.2) at (c.short_data.ensures found)))
-    (λ w. short-under a.raw.now a.at a.running.status c.requires (four (goal.at.returns c).Else-status-eq0) small (omega (arith, w.0.left)) (λ z. c.if-status-eq0.false (w.1 ∙ z)) (rw (w.1, w.2) at (c.short_data.ensures found)))
-    c.if-byte-ge128.branch
+    elim c.if-byte-ge128.branch [
+      | then-byte-ge128 w ↦ short-own a.raw.now a.at a.running.status c.requires f small w.if-byte-ge128.true (omega (arith, c.if-byte-ge240.false)) (rw (w.status-is, w.place-is) at (c.short_data.ensures found))
+      | else-byte-ge128 w ↦ short-under a.raw.now a.at a.running.status c.requires f small (omega (arith, w.if-byte-ge128.false)) (λ z. c.if-status-eq0.false (w.status-is ∙ z)) (rw (w.status-is, w.place-is) at (c.short_data.ensures found))
+    ]
