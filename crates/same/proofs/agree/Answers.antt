@@ -30,7 +30,7 @@ loop-i-smaller c = omega arith
 
 pub loop-i-preserved : goal.loop-i-preserved
 loop-i-preserved c =
-    turn _ _ _ _ _ c.loop-i.i c.requires.0 c.requires.1 (omega arith) c.loop-i.invariant c.if-a-a_start.false
+    turn _ _ _ _ _ c.loop-i.i c.requires.size_in_bounds c.requires.size_in_bounds_2 (omega arith) c.loop-i.invariant c.if-a-a_start.false
 
 pub returns : goal.returns
 returns c = ended _ _ _ _ _ c.loop-i.i (omega arith) c.loop-i.invariant

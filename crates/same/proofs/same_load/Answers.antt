@@ -8,7 +8,7 @@ pub returns-then-held-size : goal.returns-then-held-size
 returns-then-held-size c = λ e. c.if-held-size.true (c.held.ensures ∙ ap length (sym e) ∙ sym c.held-size.ensures)
 
 pub agree-requires : goal.agree-requires
-agree-requires c = (held_inside _ _ _ _ c.held-size.ensures, held_inside _ _ _ _ (sym c.if-held-size.false ∙ c.held.ensures))
+agree-requires c = record { size_in_bounds = held_inside _ _ _ _ c.held-size.ensures; size_in_bounds_2 = held_inside _ _ _ _ (sym c.if-held-size.false ∙ c.held.ensures) }
 
 pub returns : goal.returns
 returns c = cut_tells c.agree.result _ _ _ _ _ _ _ _ c.held-size.ensures c.held.ensures c.if-held-size.false c.agree.ensures

@@ -12,7 +12,7 @@ returns-in-Refused c = first_none _ _ _ _ (sym c.row_event_at.ensures ∙ ap row
 
 pub returns-in-Refused-row_event_at : goal.returns-in-Refused-row_event_at
 returns-in-Refused-row_event_at c =
-    let a = c.args in second_none a.a-bytes.now (event_of_row (take width (drop a.at a.a.now))) a.b-bytes.now (event_of_row (take width (drop a.at a.b.now))) (sym c.row_event_at-in-Event.ensures ∙ ap row_answer c.in-Refused-row_event_at.is)
+    let a = c.args in second_none a.a_bytes.now (event_of_row (take width (drop a.at a.a.now))) a.b_bytes.now (event_of_row (take width (drop a.at a.b.now))) (sym c.row_event_at-in-Event.ensures ∙ ap row_answer c.in-Refused-row_event_at.is)
 
 pub returns-in-Event-row_event_at : goal.returns-in-Event-row_event_at
 returns-in-Event-row_event_at c =

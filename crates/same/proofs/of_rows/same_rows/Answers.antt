@@ -5,14 +5,10 @@ use Rattle.same.proofs.Asked.{first_no_row, second_no_row, both-rows, rows_tell}
 use Rattle.same.proofs.of_rows.same_rows.Goals as goal
 
 pub returns-in-Refused : goal.returns-in-Refused
-returns-in-Refused c =
-    let n = c.refusal-1.given in
-    rw (first_no_row _ _ (sym c.row_event.ensures ∙ ap row_answer n.1))
+returns-in-Refused c = rw (first_no_row _ _ (sym c.row_event.ensures ∙ ap row_answer c.in-Refused.is))
 
 pub returns-in-Refused-row_event : goal.returns-in-Refused-row_event
-returns-in-Refused-row_event c =
-    let n = c.refusal-in-Refused-row_event-2-1.given in
-    rw (second_no_row _ _ (sym c.row_event-in-Event.ensures ∙ ap row_answer n.1))
+returns-in-Refused-row_event c = rw (second_no_row _ _ (sym c.row_event-in-Event.ensures ∙ ap row_answer c.in-Refused-row_event.is))
 
 pub returns-in-Event-row_event : goal.returns-in-Event-row_event
 returns-in-Event-row_event c =
