@@ -1,11 +1,11 @@
 -- `channel_at` meets its contract: each test that it passes is one of the row's widths.
 use mathlib.Core.Path.{◌≡◌, sym, ap, ◌∙◌}
-use mathlib.Core.Bool.{false, not}
+use mathlib.Core.Bool.{true}
 use Prim.Native.Nat.{◌+◌, ◌≤◌}
 use native.Mathlib.Omega.{arith}
 use lib.ListN.{length}
 use borrow.Author.Rules.{rules}
-use borrow.Author.Tests.{leb-true, not-false}
+use borrow.Author.Tests.{leb-true}
 use Rattle.rows.specs.Rows.{width}
 use Rattle.write.specs.Direct.{packed_of}
 use Rattle.write.specs.declared.row_door.Data.{Data}
@@ -13,8 +13,8 @@ use Rattle.write.proofs.direct.channel_at.Goals as goal
 use Rattle.write.proofs.direct.channel_at.Goals.{After-is_there}
 
 -- the row is all there
-there : (c : After-is_there) → not c.is_there.result ≡ false → c.args.at + width ≤ length c.args.rows.now
-there c h = leb-true _ _ (sym c.is_there.ensures ∙ not-false c.is_there.result h)
+there : (c : After-is_there) → c.is_there.result ≡ true → c.args.at + width ≤ length c.args.rows.now
+there c h = leb-true _ _ (sym c.is_there.ensures ∙ h)
 
 pub packed-requires : goal.packed-requires
 packed-requires c = search rules

@@ -14,7 +14,7 @@ returns-in-TrackNumber c = rw c.in-TrackNumber.is (c.number.ensures _ _)
 
 pub returns-in-Text : goal.returns-in-Text
 unfolding is_text
-returns-in-Text c = rw c.in-Text.is (c.type-inv.ensures ∙ sym (text_made _ _ _ _ refl))
+returns-in-Text c = rw c.in-Text.is (c.typed.ensures ∙ sym (text_made _ _ _ _ refl))
 
 pub returns-in-Copyright : goal.returns-in-Copyright
 unfolding is_text
@@ -65,14 +65,14 @@ returns-in-SmpteOffset c = rw c.in-SmpteOffset.is (c.time.ensures _)
 
 pub returns-in-TimeSignature : goal.returns-in-TimeSignature
 returns-in-TimeSignature c =
-    let v = c.message-in-TimeSignature-1.given.0 in
-    rw (c.in-TimeSignature.is, signature_fits _ _ {a = v.0} {b = v.1.0} {c = v.1.1.0} {d = v.1.1.1.0} (omega arith) (omega arith) (omega arith) (omega arith)) (c.signature.ensures _)
+    let v = c.in-TimeSignature in
+    rw (c.in-TimeSignature.is, signature_fits _ _ {a = v.a} {b = v.b} {c = v.c} {d = v.d} (omega arith) (omega arith) (omega arith) (omega arith)) (c.signature.ensures _)
 
 pub returns-in-KeySignature : goal.returns-in-KeySignature
 returns-in-KeySignature c =
-    let v = c.message-in-KeySignature-1.given.0 in
-    let byte : SFits w8 v.0 = search rules in
-    rw (c.in-KeySignature.is, key_fits _ _ v.0 v.1.0 byte.sfits) (c.key.ensures _ ∙ rw (c.to_byte.ensures, to_z-of_z byte))
+    let v = c.in-KeySignature in
+    let byte : SFits w8 v.sharps = search rules in
+    rw (c.in-KeySignature.is, key_fits _ _ v.sharps v.minor byte.sfits) (c.key.ensures _ ∙ rw (c.to_byte.ensures, to_z-of_z byte))
 
 pub returns-in-SequencerSpecific : goal.returns-in-SequencerSpecific
 returns-in-SequencerSpecific c = rw c.in-SequencerSpecific.is (c.typed-in-SequencerSpecific.ensures ∙ sym (sequencer_made _ _ _))

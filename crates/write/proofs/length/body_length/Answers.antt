@@ -10,21 +10,24 @@ unfolding Short
 load_length-requires c = subst Short c.in-System.is c.requires
 
 pub overflow_add-result : goal.overflow_add-result
-overflow_add-result c = omega (arith, c.load_length.ensures, load-length-requires c tt, encode_most c.in-System.load.length)
+unfolding Short
+overflow_add-result c = omega (arith, c.load_length.ensures, subst Short c.in-System.is c.requires, encode_most c.in-System.load.length)
 
 pub load_length-requires-in-Typed : goal.load_length-requires-in-Typed
 unfolding Short
 load_length-requires-in-Typed c = subst Short c.in-Typed.is c.requires
 
 pub overflow_add-result-in-Typed : goal.overflow_add-result-in-Typed
-overflow_add-result-in-Typed c = omega (arith, c.load_length-in-Typed.ensures, load-length-requires-2 c tt, encode_most c.in-Typed.load.length)
+unfolding Short
+overflow_add-result-in-Typed c = omega (arith, c.load_length-in-Typed.ensures, subst Short c.in-Typed.is c.requires, encode_most c.in-Typed.load.length)
 
 pub load_length-requires-in-Fixed : goal.load_length-requires-in-Fixed
 unfolding Short
 load_length-requires-in-Fixed c = subst Short c.in-Fixed.is c.requires
 
 pub overflow_add-result-in-Fixed : goal.overflow_add-result-in-Fixed
-overflow_add-result-in-Fixed c = omega (arith, c.load_length-in-Fixed.ensures, load-length-requires-3 c tt, encode_most c.in-Fixed.own.n)
+unfolding Short
+overflow_add-result-in-Fixed c = omega (arith, c.load_length-in-Fixed.ensures, subst Short c.in-Fixed.is c.requires, encode_most c.in-Fixed.own.n)
 
 pub returns-in-Channel : goal.returns-in-Channel
 unfolding raw_length

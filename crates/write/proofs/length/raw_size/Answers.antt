@@ -10,7 +10,7 @@ body_length-requires c = sound_short c.args.bytes.now c.args.event.raw c.require
 pub overflow_add-length : goal.overflow_add-length
 overflow_add-length c =
     let a = c.args in
-    omega (arith, c.varlen_length.ensures, encode_most a.event.delta.0, c.body_length.ensures, raw_few a.running.status a.event.raw (body-length-requires c tt))
+    omega (arith, c.varlen_length.ensures, encode_most a.event.delta.0, c.body_length.ensures, raw_few a.running.status a.event.raw (sound_short a.bytes.now a.event.raw c.requires))
 
 pub returns : goal.returns
 returns c =

@@ -1,6 +1,7 @@
 -- `is_named` meets its contract, type by type.
 use mathlib.Core.Path.{◌≡◌, refl}
 use mathlib.Core.Bool.{Bool, true, false, ◌||◌}
+use native.Mathlib.Omega.{arith}
 use borrow.Author.Tests.{le-leb, lt-leb, ne_eqb}
 use Rattle.smf.specs.Event.{is_named}
 use Rattle.write.proofs.make.is_named.Goals as goal
@@ -49,5 +50,13 @@ returns-in-88 c = rw c.in-88.is
 pub returns-in_default : goal.returns-in_default
 unfolding is_named
 returns-in_default c =
-    let x = c.in-47.rest.0.0 in
-    rw (lt-leb _ _ c.if-type_byte-le9.false, ne_eqb _ _ x.0.0.0.0.0.1, ne_eqb _ _ x.0.0.0.0.1, ne_eqb _ _ x.0.0.0.1, ne_eqb _ _ x.0.0.1, ne_eqb _ _ x.0.1, ne_eqb _ _ x.1, ne_eqb _ _ c.in-47.rest.0.1, ne_eqb _ _ c.in-47.rest.1)
+    let t = c.args.type_byte in
+    let n47 : t ≡ 47 → ⊥ = omega arith in
+    let n89 : t ≡ 89 → ⊥ = omega arith in
+    let n127 : t ≡ 127 → ⊥ = omega arith in
+    let n32 : t ≡ 32 → ⊥ = omega arith in
+    let n33 : t ≡ 33 → ⊥ = omega arith in
+    let n81 : t ≡ 81 → ⊥ = omega arith in
+    let n84 : t ≡ 84 → ⊥ = omega arith in
+    let n88 : t ≡ 88 → ⊥ = omega arith in
+    rw (lt-leb _ _ c.if-type_byte-le9.false, ne_eqb _ _ n47, ne_eqb _ _ n89, ne_eqb _ _ n127, ne_eqb _ _ n32, ne_eqb _ _ n33, ne_eqb _ _ n81, ne_eqb _ _ n84, ne_eqb _ _ n88)

@@ -13,4 +13,4 @@ use Rattle.write.proofs.make.own_bytes.Goals as goal
 pub returns : goal.returns
 unfolding is_sound wire_of
 returns c =
-    λ bytes. rw (le-leb c.args.n 5 (omega (arith, c.requires))) (ap (λ (l : List ℕ). gives (typed c.args.type-byte l)) (take-append-le c.args.n (c.args.a ∷ c.args.b ∷ []) (0 ∷ 0 ∷ 0 ∷ []) c.requires))
+    λ bytes. rw (le-leb c.args.n 5 (omega (arith, c.requires))) (ap (λ (l : List ℕ). gives (typed c.args.type_byte l)) (take-append-le c.args.n (c.args.a ∷ c.args.b ∷ []) (0 ∷ 0 ∷ 0 ∷ []) c.requires))

@@ -16,5 +16,5 @@ pub returns-in-There : goal.returns-in-There
 unfolding is_sound wire_of
 returns-in-There c =
     let a = c.args in
-    let t = looked-there a.bytes.now (span_of a.load) c.look.result c.look.ensures (wire.typed a.type-byte (bytes_of a.bytes.now (span_of a.load))) c.in-There.is in
+    let t = looked-there a.bytes.now (span_of a.load) c.look.result c.look.ensures (wire.typed a.type_byte (bytes_of a.bytes.now (span_of a.load))) c.in-There.is in
     rw t.1 (sym t.0)

@@ -1,6 +1,5 @@
 -- `event_length` meets its contract: the running status first.
 use borrow.Author.Rules.{rules}
-use borrow.Author.Tests.{not-true, not-false}
 use Rattle.smf.specs.Event.{legal}
 use Rattle.base.specs.Rules.{rules_of}
 use Rattle.event.specs.Event.{event_of}
@@ -10,7 +9,7 @@ use Rattle.write.proofs.one.event_length.Goals as goal
 
 pub returns-then-not-is_valid : goal.returns-then-not-is_valid
 unfolding size_event
-returns-then-not-is_valid c = rw (← c.is_valid.ensures, not-true c.is_valid.result c.if-not-is_valid.true)
+returns-then-not-is_valid c = rw (← c.is_valid.ensures, c.if-not-is_valid.true)
 
 pub measured-requires : goal.measured-requires
 measured-requires c =
@@ -19,4 +18,4 @@ measured-requires c =
 
 pub returns : goal.returns
 unfolding size_event size_judged
-returns c = let v = c.is_valid in rw (← v.ensures, not-false v.result c.if-not-is_valid.false, ← c.event_raw.ensures) c.measured.ensures
+returns c = let v = c.is_valid in rw (← v.ensures, c.if-not-is_valid.false, ← c.event_raw.ensures) c.measured.ensures

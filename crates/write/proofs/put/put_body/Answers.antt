@@ -1,7 +1,8 @@
 -- `put_body` meets its contract, form by form.
 use mathlib.Core.Path.{◌≡◌, subst}
 use mathlib.Core.Bool.{true}
-use Prim.Native.Nat.{◌+◌, ◌≤◌}
+use mathlib.Core.List.{List}
+use Prim.Native.Nat.{ℕ, ◌+◌, ◌≤◌}
 use lib.ListN.{length}
 use borrow.Author.Tests.{leb-true}
 use Rattle.smf.specs.Wire.{encode_raw}
@@ -11,34 +12,30 @@ use Rattle.write.specs.declared.raw.Raw.TheVariants as raw
 use Rattle.write.proofs.Payloads.{lent_inside}
 use Rattle.write.proofs.Lengths.{raw-length}
 use Rattle.write.proofs.put.put_body.Goals as goal
-use Rattle.write.proofs.put.put_body.Goals.{Start}
 
 -- what the caller showed, of the form that it is
-abbrev Ready : tie.Start → Raw → Type 0
-Ready c raw = (is_sound c.args.bytes.now raw ≡ true) × (c.args.at + length (encode_raw c.args.running.status (wire_of c.args.bytes.now raw)) ≤ length c.args.out.now)
+abbrev Ready : List ℕ → ℕ → ℕ → ℕ → Raw → Type 0
+Ready bytes running place room raw = (is_sound bytes raw ≡ true) × (place + length (encode_raw running (wire_of bytes raw)) ≤ room)
 
 -- and how much room it takes
-roomy : (c : Start) (raw : Raw) → Ready c raw → c.args.at + raw_length c.args.running.status raw ≤ length c.args.out.now
-roomy c raw r = rw (raw-length c.args.bytes.now c.args.running.status raw r.0) at r.1
+roomy : (bytes : List ℕ) (running place room : ℕ) (raw : Raw) → Ready bytes running place room raw → place + raw_length running raw ≤ room
+roomy bytes running place room raw r = rw (raw-length bytes running raw r.0) at r.1
 
 pub put_channel-requires : goal.put_channel-requires
 unfolding wire_of
-put_channel-requires c = let r = subst (Ready c) c.in-Channel.is c.requires in r.1
+put_channel-requires c = let a = c.args in let r = subst (Ready a.bytes.now a.running.status a.at (length a.out.now)) c.in-Channel.is c.requires in r.1
 
 pub put_load-requires : goal.put_load-requires
 unfolding is_sound wire_of raw_length
-put_load-requires c = let v = c.raw-in-System-1.given.0 in
-    let r = subst (Ready c) c.in-System.is c.requires in (lent_inside _ _ r.0, roomy (goal.at.put_load-requires c).Start (raw.System v.0 v.1.0) r)
+put_load-requires c = let a = c.args in let r = subst (Ready a.bytes.now a.running.status a.at (length a.out.now)) c.in-System.is c.requires in (lent_inside _ _ r.0, roomy a.bytes.now a.running.status a.at (length a.out.now) (raw.System c.in-System.status c.in-System.load) r)
 
 pub put_typed-requires : goal.put_typed-requires
 unfolding is_sound wire_of raw_length
-put_typed-requires c = let v = c.raw-in-Typed-1.given.0 in
-    let r = subst (Ready c) c.in-Typed.is c.requires in (lent_inside _ _ r.0, roomy (goal.at.put_typed-requires c).Start (raw.Typed v.0 v.1.0) r)
+put_typed-requires c = let a = c.args in let r = subst (Ready a.bytes.now a.running.status a.at (length a.out.now)) c.in-Typed.is c.requires in (lent_inside _ _ r.0, roomy a.bytes.now a.running.status a.at (length a.out.now) (raw.Typed c.in-Typed.type_byte c.in-Typed.load) r)
 
 pub put_fixed-requires : goal.put_fixed-requires
 unfolding is_sound wire_of raw_length
-put_fixed-requires c = let v = c.raw-in-Fixed-1.given.0 in
-    let r = subst (Ready c) c.in-Fixed.is c.requires in (leb-true _ 5 r.0, roomy (goal.at.put_fixed-requires c).Start (raw.Fixed v.0 v.1.0) r)
+put_fixed-requires c = let a = c.args in let r = subst (Ready a.bytes.now a.running.status a.at (length a.out.now)) c.in-Fixed.is c.requires in (leb-true _ 5 r.0, roomy a.bytes.now a.running.status a.at (length a.out.now) (raw.Fixed c.in-Fixed.type_byte c.in-Fixed.own) r)
 
 pub returns-in-Channel : goal.returns-in-Channel
 unfolding wire_of

@@ -21,13 +21,13 @@ returns-then-bytes c =
     rw c.if-bytes.true
     (record {
       place = refl;
-      buffer = over_one (set a.out.now a.at a.bytes.a) (a.at + 1) a.bytes.b (slice-write-out-2 c) ∙ over_cons a.out.now a.at a.bytes.a (a.bytes.b ∷ []) (slice-write-out c);
+      buffer = over_one (set a.out.now a.at a.bytes.a) (a.at + 1) a.bytes.b (simp length-set (omega (arith, rw c.if-bytes.true at c.requires))) ∙ over_cons a.out.now a.at a.bytes.a (a.bytes.b ∷ []) (omega (arith, rw c.if-bytes.true at c.requires));
     })
 
 pub returns : goal.returns
 returns c =
     let a = c.args in
-    rw c.if-bytes.false (record { place = refl; buffer = over_one a.out.now a.at a.bytes.a (slice-write-out c) })
+    rw c.if-bytes.false (record { place = refl; buffer = over_one a.out.now a.at a.bytes.a (omega (arith, rw c.if-bytes.false at c.requires)) })
 
 pub overflow_add-result : goal.overflow_add-result
 overflow_add-result c = omega (arith, rw c.if-bytes.true at c.requires)

@@ -15,4 +15,4 @@ put_load-requires c =
 
 pub returns : goal.returns
 returns c =
-    c.put_load.ensures ∙ over_cons c.args.out.now c.args.at 0xFF (c.args.type-byte ∷ encode_payload (bytes_of c.args.bytes.now (span_of c.args.load))) (omega (arith, c.requires.1))
+    c.put_load.ensures ∙ over_cons c.args.out.now c.args.at 0xFF (c.args.type_byte ∷ encode_payload (bytes_of c.args.bytes.now (span_of c.args.load))) (omega (arith, c.requires.1))

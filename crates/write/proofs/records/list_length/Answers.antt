@@ -2,7 +2,6 @@
 use mathlib.Core.Path.{sym, ◌∙◌}
 use mathlib.Core.List.{map}
 use borrow.Author.Rules.{rules}
-use borrow.Author.Tests.{not-true, not-false}
 use Rattle.smf.specs.Lists.{records_judged}
 use Rattle.base.specs.Rules.{rules_of}
 use Rattle.track.specs.List.{capacity, record_of}
@@ -13,17 +12,17 @@ pub returns-then-not-is_valid : goal.returns-then-not-is_valid
 returns-then-not-is_valid c =
     let a = c.args in
     let v = c.is_valid in
-    rw c.refused.ensures (size_invalid capacity a.running.status (records_judged (rules_of a.rules) a.bytes.now (map record_of a.list.records)) a.list.count (sym v.ensures ∙ not-true v.result c.if-not-is_valid.true))
+    rw c.refused.ensures (size_invalid capacity a.running.status (records_judged (rules_of a.rules) a.bytes.now (map record_of a.list.records)) a.list.count (sym v.ensures ∙ c.if-not-is_valid.true))
 
 pub returns-then-list-gt-CAPACITY : goal.returns-then-list-gt-CAPACITY
 returns-then-list-gt-CAPACITY c =
     let a = c.args in
     let v = c.is_valid in
-    rw c.refused-then-list-gt-CAPACITY.ensures (size-many capacity a.running.status (records_judged (rules_of a.rules) a.bytes.now (map record_of a.list.records)) a.list.count (sym v.ensures ∙ not-false v.result c.if-not-is_valid.false) c.if-list-gt-CAPACITY.true)
+    rw c.refused-then-list-gt-CAPACITY.ensures (size-many capacity a.running.status (records_judged (rules_of a.rules) a.bytes.now (map record_of a.list.records)) a.list.count (sym v.ensures ∙ c.if-not-is_valid.false) c.if-list-gt-CAPACITY.true)
 
 pub returns : goal.returns
 returns c =
     let a = c.args in
     let v = c.is_valid in
     c.measure_records.ensures
-    ∙ size_few capacity a.running.status (records_judged (rules_of a.rules) a.bytes.now (map record_of a.list.records)) a.list.count (sym v.ensures ∙ not-false v.result c.if-not-is_valid.false) c.if-list-gt-CAPACITY.false
+    ∙ size_few capacity a.running.status (records_judged (rules_of a.rules) a.bytes.now (map record_of a.list.records)) a.list.count (sym v.ensures ∙ c.if-not-is_valid.false) c.if-list-gt-CAPACITY.false

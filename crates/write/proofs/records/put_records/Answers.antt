@@ -16,8 +16,8 @@ use Rattle.write.proofs.records.put_records.Goals as goal
 pub loop-index-init : goal.loop-index-init
 loop-index-init c =
     let p = c.requires in
-    let long : length c.args.t1.records ≡ capacity = search (rules, unmapped) in
-    (omega (arith, p.0), omega arith, going_first _ _ _ p.1)
+    let long : length c.args.list.records ≡ capacity = search (rules, unmapped) in
+    (omega (arith, p.count_le_capacity), omega arith, going_first _ _ _ p.room_for)
 
 pub written-requires : goal.written-requires
 written-requires c = told _ _ (legal_number _ _ _) c.record_raw-judged.result c.record_raw-judged.ensures
@@ -28,7 +28,7 @@ returns-in-Refused c =
     let a = c.args in
     let i = c.loop-index-test.true in
     let said = rw c.record_raw-judged.ensures at c.written.ensures in
-    absurd (going-never a.running.status (recordsCounted (rules_of a.rules) a.bytes.now a.t1.records a.t1.count) a.out.now l.invariant.2 (legal (rules_of a.rules) a.bytes.now (record_of past)) _ (record-counted (rules_of a.rules) a.bytes.now a.t1.records a.t1.count l.index i) (omega (arith, i, records-counted (rules_of a.rules) a.bytes.now a.t1.records a.t1.count l.invariant.0)) c.written.result _ said _ c.in-Refused.is)
+    absurd (going-never a.running.status (recordsCounted (rules_of a.rules) a.bytes.now a.list.records a.list.count) a.out.now l.invariant.2 (legal (rules_of a.rules) a.bytes.now (record_of past)) _ (record-counted (rules_of a.rules) a.bytes.now a.list.records a.list.count l.index i) (omega (arith, i, records-counted (rules_of a.rules) a.bytes.now a.list.records a.list.count l.invariant.0)) c.written.result _ said _ c.in-Refused.is)
 
 pub loop-index-preserved : goal.loop-index-preserved
 loop-index-preserved c =
@@ -36,10 +36,10 @@ loop-index-preserved c =
     let a = c.args in
     let i = c.loop-index-test.true in
     let said = rw c.record_raw-judged.ensures at c.written.ensures in
-    (l.invariant.0, omega arith, going_more a.running.status (recordsCounted (rules_of a.rules) a.bytes.now a.t1.records a.t1.count) a.out.now l.invariant.2 (legal (rules_of a.rules) a.bytes.now (record_of past)) _ (record-counted (rules_of a.rules) a.bytes.now a.t1.records a.t1.count l.index i) (omega (arith, i, records-counted (rules_of a.rules) a.bytes.now a.t1.records a.t1.count l.invariant.0)) c.written.result _ said c.in-Next.past c.in-Next.is)
+    (l.invariant.0, omega arith, going_more a.running.status (recordsCounted (rules_of a.rules) a.bytes.now a.list.records a.list.count) a.out.now l.invariant.2 (legal (rules_of a.rules) a.bytes.now (record_of past)) _ (record-counted (rules_of a.rules) a.bytes.now a.list.records a.list.count l.index i) (omega (arith, i, records-counted (rules_of a.rules) a.bytes.now a.list.records a.list.count l.invariant.0)) c.written.result _ said c.in-Next.past c.in-Next.is)
 
 pub returns : goal.returns
 returns c =
     let l = c.loop-index in
     let a = c.args in
-    going-last a.running.status (recordsCounted (rules_of a.rules) a.bytes.now a.t1.records a.t1.count) a.out.now l.invariant.2 (omega (arith, records-counted (rules_of a.rules) a.bytes.now a.t1.records a.t1.count l.invariant.0))
+    going-last a.running.status (recordsCounted (rules_of a.rules) a.bytes.now a.list.records a.list.count) a.out.now l.invariant.2 (omega (arith, records-counted (rules_of a.rules) a.bytes.now a.list.records a.list.count l.invariant.0))

@@ -2,34 +2,34 @@
 use mathlib.Core.Path.{◌≡◌, sym, ap, ◌∙◌}
 use mathlib.Core.List.{map}
 use borrow.Author.Rules.{rules}
-use Rattle.smf.specs.Lists.{records_judged, wrote, size_list}
+use Rattle.smf.specs.Lists.{records_judged, wrote, ListSize}
 use Rattle.base.specs.Refusal.{number_of}
 use Rattle.base.specs.Rules.{rules_of}
 use Rattle.track.specs.List.{capacity, record_of}
 use Rattle.write.specs.ListAnswers.{size_said}
+use Rattle.write.specs.declared.answer.Size.{Size}
+use Rattle.write.specs.declared.answer.ListLength.{ListLength}
+use Rattle.write.specs.declared.answer.ListLength.TheVariants as long
 use Rattle.write.proofs.Sizes.{unsized-left, sized-few, sized-fits, sized-full, sized-put}
 use Rattle.write.proofs.records.write_list.Goals as goal
-use Rattle.write.proofs.records.write_list.Goals.{In-Length-2}
 
 -- the list has this size
-size-there : (c : In-Length-2) → let a = c.args in let s = c.in-Length.size in record { answer = wrote s.length; running = s.running.status } ≡ size_list capacity a.running.status (records_judged (rules_of a.rules) a.bytes.now (map record_of a.list.records)) a.list.count
-size-there c =
-    let a = c.args in
-    sym (ap size_said c.in-Length.is) ∙ c.list_length.ensures
+size-there : (answer : ListLength) (s : Size) (z : ListSize) → answer ≡ long.Length s → size_said answer ≡ z → record { answer = wrote s.length; running = s.running.status } ≡ z
+size-there answer s z e said = sym (ap size_said e) ∙ said
 
 pub returns-then-out-size : goal.returns-then-out-size
 returns-then-out-size c =
     let a = c.args in
     let s = c.in-Length.size in
-    sized-full capacity a.running.status (records_judged (rules_of a.rules) a.bytes.now (map record_of a.list.records)) a.list.count a.out.now s.length s.running.status (size-there (goal.at.returns-then-out-size c).In-Length-2) c.if-out-size.true
+    sized-full capacity a.running.status (records_judged (rules_of a.rules) a.bytes.now (map record_of a.list.records)) a.list.count a.out.now s.length s.running.status (size-there _ s _ c.in-Length.is c.list_length.ensures) c.if-out-size.true
 
 pub put_records-requires : goal.put_records-requires
 put_records-requires c =
     let a = c.args in
-    let s = c.in-Length.size in (
-      sized-few capacity a.running.status (records_judged (rules_of a.rules) a.bytes.now (map record_of a.list.records)) a.list.count a.out.now s.length s.running.status (size-there (goal.at.put_records-requires c).In-Length-2),
-      sized-fits capacity a.running.status (records_judged (rules_of a.rules) a.bytes.now (map record_of a.list.records)) a.list.count a.out.now s.length s.running.status (size-there (goal.at.put_records-requires c).In-Length-2) c.if-out-size.false,
-    )
+    let s = c.in-Length.size in record {
+      count_le_capacity = sized-few capacity a.running.status (records_judged (rules_of a.rules) a.bytes.now (map record_of a.list.records)) a.list.count a.out.now s.length s.running.status (size-there _ s _ c.in-Length.is c.list_length.ensures);
+      room_for = sized-fits capacity a.running.status (records_judged (rules_of a.rules) a.bytes.now (map record_of a.list.records)) a.list.count a.out.now s.length s.running.status (size-there _ s _ c.in-Length.is c.list_length.ensures) c.if-out-size.false;
+    }
 
 pub returns-in-Refused : goal.returns-in-Refused
 returns-in-Refused c =
@@ -42,5 +42,5 @@ pub returns-else-out-size : goal.returns-else-out-size
 returns-else-out-size c =
     let a = c.args in
     let s = c.in-Length.size in
-    sized-put capacity a.running.status (records_judged (rules_of a.rules) a.bytes.now (map record_of a.list.records)) a.list.count a.out.now s.length s.running.status (size-there (goal.at.returns-else-out-size c).In-Length-2)
+    sized-put capacity a.running.status (records_judged (rules_of a.rules) a.bytes.now (map record_of a.list.records)) a.list.count a.out.now s.length s.running.status (size-there _ s _ c.in-Length.is c.list_length.ensures)
     c.if-out-size.false _ c.put_records.ensures

@@ -1,5 +1,5 @@
 -- `row_meta` meets its contract, number by number.
-use mathlib.Core.Path.{sym, ◌∙◌}
+use mathlib.Core.Path.{◌≡◌, sym, ◌∙◌}
 use Prim.Native.Nat.{◌^◌}
 use native.Mathlib.Omega.{arith}
 use lib.Dec.{ltb}
@@ -51,7 +51,7 @@ returns-in-345 c = rw c.in-345.is (c.row_key.ensures _ _)
 
 pub returns-in-383 : goal.returns-in-383
 unfolding fields_fit row_meta
-returns-in-383 c = rw c.in-383.is (c.type-inv.ensures ∙ sym (sequencer_made _ _ _))
+returns-in-383 c = rw c.in-383.is (c.typed.ensures ∙ sym (sequencer_made _ _ _))
 
 pub returns-in-512 : goal.returns-in-512
 unfolding fields_fit row_meta
@@ -59,7 +59,17 @@ returns-in-512 c = rw c.in-512.is c.row_unknown.ensures
 
 pub returns-in_default : goal.returns-in_default
 returns-in_default c =
-    let x = c.in-256.rest.0 in
     let a = c.args in
     let p = c.requires in
-    rw (text-fits (rules_of a.rules) a.bytes.now a.a a.b a.c a.d a.e a.f a.number p.0 p.1 p.2 x.0.0.0.0.0.0.0.0.1 x.0.0.0.0.0.0.0.1 x.0.0.0.0.0.0.1 x.0.0.0.0.0.1 x.0.0.0.0.1 x.0.0.0.1 x.0.0.1 x.0.1 x.1 c.in-256.rest.1, text-meta (rules_of a.rules) a.bytes.now a.a a.b a.c a.d a.e a.f a.number p.0 p.1 p.2 x.0.0.0.0.0.0.0.0.1 x.0.0.0.0.0.0.0.1 x.0.0.0.0.0.0.1 x.0.0.0.0.0.1 x.0.0.0.0.1 x.0.0.0.1 x.0.0.1 x.0.1 x.1 c.in-256.rest.1 (span_of a.load)) (c.row_text.ensures _)
+    let t = a.number in
+    let n256 : t ≡ 256 → ⊥ = omega arith in
+    let n288 : t ≡ 288 → ⊥ = omega arith in
+    let n289 : t ≡ 289 → ⊥ = omega arith in
+    let n303 : t ≡ 303 → ⊥ = omega arith in
+    let n337 : t ≡ 337 → ⊥ = omega arith in
+    let n340 : t ≡ 340 → ⊥ = omega arith in
+    let n344 : t ≡ 344 → ⊥ = omega arith in
+    let n345 : t ≡ 345 → ⊥ = omega arith in
+    let n383 : t ≡ 383 → ⊥ = omega arith in
+    let n512 : t ≡ 512 → ⊥ = omega arith in
+    rw (text-fits (rules_of a.rules) a.bytes.now a.a a.b a.c a.d a.e a.f t p.0 p.1 p.2 n256 n288 n289 n303 n337 n340 n344 n345 n383 n512, text-meta (rules_of a.rules) a.bytes.now a.a a.b a.c a.d a.e a.f t p.0 p.1 p.2 n256 n288 n289 n303 n337 n340 n344 n345 n383 n512 (span_of a.load)) (c.row_text.ensures _)

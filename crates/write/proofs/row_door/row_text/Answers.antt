@@ -16,4 +16,4 @@ pub returns : goal.returns
 returns c =
     let a = c.args in
     let t = text_is a.number c.if-number-lt257.false c.if-number-ge266.false in
-    λ rules. rw (t, text_made rules a.bytes.now (a.number - 0x100) (span_of a.load) t) c.type-inv.ensures
+    λ rules. rw (t, text_made rules a.bytes.now (a.number - 0x100) (span_of a.load) t) c.typed.ensures

@@ -4,7 +4,6 @@ use mathlib.Core.Bool.{true, false}
 use Prim.Native.Nat.{ℕ}
 use native.Mathlib.Omega.{arith}
 use borrow.Author.Rules.{rules}
-use borrow.Author.Tests.{not-true, not-false}
 use Rattle.smf.specs.Smpte.{time}
 use Rattle.smf.specs.Kind.{meta, smpte_offset}
 use Rattle.base.specs.Rules.{rules_of}
@@ -15,7 +14,7 @@ use Rattle.write.proofs.row_door.row_time.Goals as goal
 
 pub returns-then-not-are_bytes : goal.returns-then-not-are_bytes
 unfolding time_fits
-returns-then-not-are_bytes c = λ bytes. rw (← c.are_bytes.ensures, not-true c.are_bytes.result c.if-not-are_bytes.true, and_false)
+returns-then-not-are_bytes c = λ bytes. rw (← c.are_bytes.ensures, c.if-not-are_bytes.true, and_false)
 
 pub returns-then-rate-ge256 : goal.returns-then-rate-ge256
 unfolding time_fits
@@ -25,35 +24,35 @@ pub overflow_cast-a : goal.overflow_cast-a
 overflow_cast-a c =
     let a = c.args in
     let v = c.are_bytes in
-    let fit = sym v.ensures ∙ not-false v.result c.if-not-are_bytes.false in
+    let fit = sym v.ensures ∙ c.if-not-are_bytes.false in
     omega (arith, (bytes_below a.a a.b a.c a.d a.e fit).0)
 
 pub overflow_cast-b : goal.overflow_cast-b
 overflow_cast-b c =
     let a = c.args in
     let v = c.are_bytes in
-    let fit = sym v.ensures ∙ not-false v.result c.if-not-are_bytes.false in
+    let fit = sym v.ensures ∙ c.if-not-are_bytes.false in
     omega (arith, (bytes_below a.a a.b a.c a.d a.e fit).1)
 
 pub overflow_cast-c : goal.overflow_cast-c
 overflow_cast-c c =
     let a = c.args in
     let v = c.are_bytes in
-    let fit = sym v.ensures ∙ not-false v.result c.if-not-are_bytes.false in
+    let fit = sym v.ensures ∙ c.if-not-are_bytes.false in
     omega (arith, (bytes_below a.a a.b a.c a.d a.e fit).2)
 
 pub overflow_cast-d : goal.overflow_cast-d
 overflow_cast-d c =
     let a = c.args in
     let v = c.are_bytes in
-    let fit = sym v.ensures ∙ not-false v.result c.if-not-are_bytes.false in
+    let fit = sym v.ensures ∙ c.if-not-are_bytes.false in
     omega (arith, (bytes_below a.a a.b a.c a.d a.e fit).3)
 
 pub overflow_cast-e : goal.overflow_cast-e
 overflow_cast-e c =
     let a = c.args in
     let v = c.are_bytes in
-    let fit = sym v.ensures ∙ not-false v.result c.if-not-are_bytes.false in
+    let fit = sym v.ensures ∙ c.if-not-are_bytes.false in
     omega (arith, (bytes_below a.a a.b a.c a.d a.e fit).4)
 
 pub returns-in-Refused : goal.returns-in-Refused
@@ -68,7 +67,7 @@ unfolding time_fits
 returns-in-Made c =
     let a = c.args in
     let v = c.are_bytes in
-    let fit = sym v.ensures ∙ not-false v.result c.if-not-are_bytes.false in
+    let fit = sym v.ensures ∙ c.if-not-are_bytes.false in
     let g = rw c.in-Made.is at c.from_int.ensures in
     let q = rate_given a.rate _ g in
     λ bytes. rw (q.0, fit) (c.time.ensures bytes ∙ ap (λ (n : ℕ). raw_kind (rules_of a.rules) bytes (meta (smpte_offset (time a.a a.b a.c a.d a.e n)))) (sym q.1))

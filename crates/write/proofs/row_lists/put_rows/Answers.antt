@@ -9,7 +9,7 @@ use Rattle.write.proofs.Writing.{going_first, going-last, going-room, going_more
 use Rattle.write.proofs.row_lists.put_rows.Goals as goal
 
 pub loop-index-init : goal.loop-index-init
-loop-index-init c = let p = c.requires in (omega arith, going_first _ _ _ p.1)
+loop-index-init c = let p = c.requires in (omega arith, going_first _ _ _ p.room_for)
 
 pub write_at-requires : goal.write_at-requires
 write_at-requires c =
