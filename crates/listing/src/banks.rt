@@ -5,6 +5,9 @@ use bank::list::list_track;
 use bank::read::read_bank;
 use bank::{Bank, TRACKS, Verdict};
 use base::{Range, Refusal, Rules};
+use std::env::FillError;
+use std::io;
+use std::rt::Env;
 
 // An index that no bank has: those of the most tracks are all below it.
 const NO_INDEX: usize = TRACKS;
@@ -32,72 +35,80 @@ fn index_in(digits: &[u8]) -> usize {
     index
 }
 
+// Whether the program was started with that argument, however long it is; the first is number 1.
+pub fn is_given(rt: &impl Env, number: usize) -> bool {
+    match rt.arg(number, &mut []) {
+        Err(FillError::NotPresent) => false,
+        _ => true,
+    }
+}
+
 // The index that is asked for: the second argument. One that is too long for its digits to be held is no bank's, since
 // `./list` leaves out zeros in front.
-fn asked() -> usize {
+fn asked(rt: &impl Env) -> usize {
     let mut digits = [0u8; 32];
-    let length = os::arg(2, &mut digits);
-    if os::errno() != 0 {
-        return NO_INDEX;
+    match rt.arg(2, &mut digits) {
+        Ok(length) => index_in(&digits[..length]),
+        Err(_) => NO_INDEX,
     }
-    index_in(&digits[..length])
 }
 
 // What is said of a block that is no bank, or of an index that it does not have.
-fn refused(refusal: Refusal) {
-    word(b"refused");
-    byte(refusal.number());
-    line_end();
+fn refused(out: &impl Print, refusal: Refusal) -> io::Result<()> {
+    word(out, b"refused")?;
+    byte(out, refusal.number())?;
+    line_end(out)
 }
 
 // The line of a track: its index, and where it stands in the block.
-fn line(index: usize, range: Range) {
-    io::print_decimal(1, index as u64);
-    number(range.start as u64);
-    number(range.length as u64);
-    line_end();
+fn line(out: &impl Print, index: usize, range: Range) -> io::Result<()> {
+    out.print(index as u64)?;
+    number(out, range.start as u64)?;
+    number(out, range.length as u64)?;
+    line_end(out)
 }
 
 // The lines of a bank's tracks. No more ranges are there than a bank holds, whatever its count says.
-fn lines(bank: Bank) {
+fn lines(out: &impl Print, bank: Bank) -> io::Result<()> {
     let count = bank.count;
     let mut index: usize = 0;
     while index < TRACKS {
         if index < count {
-            line(index, bank.tracks[index]);
+            line(out, index, bank.tracks[index])?;
         }
         index += 1;
     }
+    Ok(())
 }
 
 // Says where the tracks of a bank stand.
-fn list_tracks(block: &[u8]) {
+fn list_tracks(out: &impl Print, block: &[u8]) -> io::Result<()> {
     let read = read_bank(block);
     let bank = read.bank;
     let verdict = read.verdict;
     match verdict {
-        Verdict::Refused(refusal) => refused(refusal),
-        Verdict::Accepted => lines(bank),
+        Verdict::Refused(refusal) => refused(out, refusal),
+        Verdict::Accepted => lines(out, bank),
     }
 }
 
 // Lists a track of a bank.
-fn list_one(block: &[u8], index: usize) {
+fn list_one(out: &impl Print, block: &[u8], index: usize) -> io::Result<()> {
     let track = list_track(block, index, Rules { strict: false });
     let read = track.read;
     let verdict = track.verdict;
     match verdict {
-        Verdict::Refused(refusal) => refused(refusal),
-        Verdict::Accepted => listed(read),
+        Verdict::Refused(refusal) => refused(out, refusal),
+        Verdict::Accepted => listed(out, read),
     }
 }
 
 // Says of a block what is asked for: with no index behind the word `bank` where its tracks stand, else the track of that
 // index.
-pub fn told(block: &[u8]) {
-    if os::arg_count() < 3 {
-        list_tracks(block);
+pub fn told(rt: &(impl Env + Print), block: &[u8]) -> io::Result<()> {
+    if is_given(rt, 2) {
+        list_one(rt, block, asked(rt))
     } else {
-        list_one(block, asked());
+        list_tracks(rt, block)
     }
 }

@@ -4,13 +4,16 @@
 
 mod banks;
 mod events;
+mod input;
 mod kinds;
 mod text;
 
-use crate::banks::told;
+use crate::banks::{is_given, told};
 use crate::events::listed;
+use crate::input::read_full;
 use crate::text::{line_end, word};
 use base::{Rules, Running};
+use std::io;
 use track::list::EventList;
 
 // The most bytes that are listed. They are no fewer than a bank may have, `bank::LARGEST`, so that one byte more shows
@@ -19,18 +22,16 @@ const LONGEST: usize = 65536;
 
 // Reads standard input and lists it. Of a bank that is too long the bytes that are read are too long too, and have its
 // count, so that they are refused by its number.
-fn main() {
+fn main(rt: HostRuntime) -> io::Result<()> {
     // one byte more than is listed, to see that there is more
     let mut buffer = [0u8; LONGEST + 1];
-    let length = io::read_full(0, &mut buffer);
-    if 1 < os::arg_count() {
-        told(&buffer[..length]);
-        return;
+    let length = read_full(&mut rt.stdin(), &mut buffer)?;
+    if is_given(&rt, 1) {
+        return told(&rt, &buffer[..length]);
     }
     if LONGEST < length {
-        word(b"too long");
-        line_end();
-        return;
+        word(&rt, b"too long")?;
+        return line_end(&rt);
     }
     let read = EventList::read(
         &buffer[..length],
@@ -38,5 +39,5 @@ fn main() {
         Running { status: 0 },
         Rules { strict: false },
     );
-    listed(read);
+    listed(&rt, read)
 }

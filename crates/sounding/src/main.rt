@@ -2,12 +2,15 @@
 // where reading stopped.
 #![tactic(auto)]
 
+mod input;
 mod text;
 
+use crate::input::read_full;
 use crate::text::{line_end, number, word};
 use base::{Rules, Running};
 use player::notes::after;
 use player::table::{CHANNELS, KEYS, counts, fresh};
+use std::io;
 use track::cursor::Stop;
 use track::list::EventList;
 
@@ -26,56 +29,58 @@ fn total(sounding: [u8; CHANNELS]) -> u64 {
 }
 
 // Why reading stopped: a word, or the number of a refusal.
-fn stop(why: Stop) {
+fn stop(out: &impl Print, why: Stop) -> io::Result<()> {
     match why {
-        Stop::End => word(b" end"),
-        Stop::Full => word(b" full"), // never: behind a full list another is read
-        Stop::Refused(refusal) => number(refusal.number() as u64),
+        Stop::End => word(out, b" end"),
+        Stop::Full => word(out, b" full"), // never: behind a full list another is read
+        Stop::Refused(refusal) => number(out, refusal.number() as u64),
     }
 }
 
 // The first line: how many keys sound, why reading stopped, and where.
-fn summary(sounding: [u8; CHANNELS], why: Stop, place: usize) {
-    word(b"sounding");
-    number(total(sounding));
-    word(b" stop");
-    stop(why);
-    word(b" at");
-    number(place as u64);
-    line_end();
+fn summary(out: &impl Print, sounding: [u8; CHANNELS], why: Stop, place: usize) -> io::Result<()> {
+    word(out, b"sounding")?;
+    number(out, total(sounding))?;
+    word(out, b" stop")?;
+    stop(out, why)?;
+    word(out, b" at")?;
+    number(out, place as u64)?;
+    line_end(out)
 }
 
 // The line of a sounding key.
-fn line(channel: usize, key: usize, velocity: u8) {
-    io::print_decimal(1, channel as u64);
-    number(key as u64);
-    number(velocity as u64);
-    line_end();
+fn line(out: &impl Print, channel: usize, key: usize, velocity: u8) -> io::Result<()> {
+    out.print(channel as u64)?;
+    number(out, key as u64)?;
+    number(out, velocity as u64)?;
+    line_end(out)
 }
 
 // The lines of a channel's sounding keys.
-fn keys(channel: usize, velocities: [u8; KEYS]) {
+fn keys(out: &impl Print, channel: usize, velocities: [u8; KEYS]) -> io::Result<()> {
     let mut key: usize = 0;
     while key < KEYS {
         if velocities[key] != 0 {
-            line(channel, key, velocities[key]);
+            line(out, channel, key, velocities[key])?;
         }
         key += 1;
     }
+    Ok(())
 }
 
 // The lines of all sounding keys, by channel, then key.
-fn lines(table: [[u8; KEYS]; CHANNELS]) {
+fn lines(out: &impl Print, table: [[u8; KEYS]; CHANNELS]) -> io::Result<()> {
     let mut channel: usize = 0;
     while channel < CHANNELS {
-        keys(channel, table[channel]);
+        keys(out, channel, table[channel])?;
         channel += 1;
     }
+    Ok(())
 }
 
 // Reads a track list after list, to its end or to a refusal, and says what sounds then. A list that is full has used bytes,
 // so that there are no more lists than bytes: counting down those left only shows that the loop ends, and never ends it.
-fn play(raw: &[u8]) {
+fn play(out: &impl Print, raw: &[u8]) -> io::Result<()> {
     let mut table = fresh();
     let mut why = Stop::End;
     let mut place: usize = 0;
@@ -97,19 +102,18 @@ fn play(raw: &[u8]) {
             }
         }
     }
-    summary(counts(table), why, place);
-    lines(table);
+    summary(out, counts(table), why, place)?;
+    lines(out, table)
 }
 
 // Reads standard input and says what sounds at its end.
-fn main() {
+fn main(rt: HostRuntime) -> io::Result<()> {
     // one byte more than is read, to see that there is more
     let mut buffer = [0u8; LONGEST + 1];
-    let length = io::read_full(0, &mut buffer);
+    let length = read_full(&mut rt.stdin(), &mut buffer)?;
     if LONGEST < length {
-        word(b"too long");
-        line_end();
-        return;
+        word(&rt, b"too long")?;
+        return line_end(&rt);
     }
-    play(&buffer[..length]);
+    play(&rt, &buffer[..length])
 }

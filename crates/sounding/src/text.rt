@@ -1,17 +1,18 @@
 // Words and numbers on standard output.
+use std::io;
 
 // A word, with the blank in front of it where it has one.
-pub fn word(text: &[u8]) {
-    io::write_all(1, text);
+pub fn word(out: &impl Print, text: &[u8]) -> io::Result<()> {
+    out.write_all(text)
 }
 
 // The end of a line.
-pub fn line_end() {
-    io::write_all(1, b"\n");
+pub fn line_end(out: &impl Print) -> io::Result<()> {
+    out.write_all(b"\n")
 }
 
 // A blank and a number.
-pub fn number(n: u64) {
-    io::write_all(1, b" ");
-    io::print_decimal(1, n);
+pub fn number(out: &impl Print, n: u64) -> io::Result<()> {
+    out.write_all(b" ")?;
+    out.print(n)
 }

@@ -2,10 +2,12 @@
 // P12, which are proved: lines as those of standard input, whose answers are written; and lines that are wrong.
 use crate::cells::CELLS;
 use crate::lines;
+use std::io;
 
 // SMF's table of variable-length numbers: each is written, and its bytes are read in both modes.
-pub fn numbers(cells: &mut [u64; CELLS]) {
+pub fn numbers(out: &impl Print, cells: &mut [u64; CELLS]) -> io::Result<()> {
     lines::all(
+        out,
         b",SMF's table of numbers\n.\n\
           ,00000000\nN 4 0 0:=\nn 1 0: 0=\nn 0 0: 0=\n.\n\
           ,00000040\nN 4 0 40:=\nn 1 0: 40=\nn 0 0: 40=\n.\n\
@@ -20,12 +22,14 @@ pub fn numbers(cells: &mut [u64; CELLS]) {
           ,08000000\nN 4 0 8000000:=\nn 1 0: C0 80 80 0=\nn 0 0: C0 80 80 0=\n.\n\
           ,0fffffff\nN 4 0 FFFFFFF:=\nn 1 0: FF FF FF 7F=\nn 0 0: FF FF FF 7F=\n.\n",
         cells,
-    );
+    )?;
+    Ok(())
 }
 
 // SMF's example: the bytes behind each track's length, as the document prints them, read in both modes and written back.
-pub fn tracks(cells: &mut [u64; CELLS]) {
+pub fn tracks(out: &impl Print, cells: &mut [u64; CELLS]) -> io::Result<()> {
     lines::all(
+        out,
         b",SMF's example\n.\n\
           ,as one track, strict:\n\
           B 3B 1: 00 FF 58 04 04 02 18 08 00 FF 51 03 07 A1 20 00 C0 05 00 C1 2E 00 C2 46 00 \
@@ -50,13 +54,15 @@ pub fn tracks(cells: &mut [u64; CELLS]) {
           ,as four tracks, the fourth, lenient:\n\
           B 15 0: 00 C2 46 00 92 30 60 00 3C 60 83 00 30 00 00 3C 00 00 FF 2F 00=\n.\n",
         cells,
-    );
+    )?;
+    Ok(())
 }
 
 // Answers that are wrong: the first number, one between, the last, a byte of a buffer, one number less and one more. Each
 // is to be told, or no answer is compared.
-pub fn wrong(cells: &mut [u64; CELLS]) {
+pub fn wrong(out: &impl Print, cells: &mut [u64; CELLS]) -> io::Result<()> {
     lines::all(
+        out,
         b"- answers that are wrong\n\
           e 0 90 0: 0 F8= 6 0 90 0\n\
           e 0 0 0: 0 90 3C 40= 0 4 90 0 0 9 0 3D 40 0 0 0 0 0\n\
@@ -65,12 +71,14 @@ pub fn wrong(cells: &mut [u64; CELLS]) {
           n 0 0: 81 0= 0 80 2\n\
           n 0 0: 81 0= 0 80 2 0 0\n",
         cells,
-    );
+    )?;
+    Ok(())
 }
 
 // The documents' bytes. More of them stand in the lines of standard input.
-pub fn worked(cells: &mut [u64; CELLS]) {
+pub fn worked(out: &impl Print, cells: &mut [u64; CELLS]) -> io::Result<()> {
     lines::all(
+        out,
         b",documents 01 and 02\n.\n\
           ,no bytes as an event, strict:\ne 1 0 0:=\n.\n\
           ,no bytes as an event, lenient:\ne 0 0 0:=\n.\n\
@@ -89,5 +97,6 @@ pub fn worked(cells: &mut [u64; CELLS]) {
           ,timing e7 28:\nt: E7 28=\n.\n\
           ,timing 80 00:\nt: 80 0=\n.\n",
         cells,
-    );
+    )?;
+    Ok(())
 }

@@ -2,8 +2,11 @@
 // names the lines behind it, with , where it is words to write and with . where it ends them. The port's answer is
 // compared with the line's, and written where the line has `=` and no number behind it.
 use crate::cells::{CELLS, Given, LINE, narrow, numbers, part, same};
+use crate::input::read_full;
 use crate::text::{decimal, word};
 use crate::{bends, fields, line, reads, records, sheets, text, times, widths, writes};
+use std::io;
+use std::io::Read;
 use std::num::wrapping_add_u64;
 
 // The most bytes of standard input: 1 MiB.
@@ -20,12 +23,12 @@ pub struct Tally {
 }
 
 // Writes how many lines were compared, and how many differ.
-fn count(compared: u64, differ: u64) {
-    word(b" ");
-    decimal(compared);
-    word(b" compared, ");
-    decimal(differ);
-    word(b" differ\n");
+fn count(out: &impl Print, compared: u64, differ: u64) -> io::Result<()> {
+    word(out, b" ")?;
+    decimal(out, compared)?;
+    word(out, b" compared, ")?;
+    decimal(out, differ)?;
+    word(out, b" differ\n")
 }
 
 // What the port answers to a letter is put into the cells. How many numbers it has.
@@ -78,76 +81,81 @@ fn asked(given: Given, low: &[u8; LINE], length: usize, cells: &mut [u64; CELLS]
 }
 
 // A question: 0 where its answer is written, 1 where it is the line's, 2 where it differs.
-fn question(text: &[u8], cells: &mut [u64; CELLS]) -> u8 {
+fn question(out: &impl Print, text: &[u8], cells: &mut [u64; CELLS]) -> io::Result<u8> {
     let mut low = [0u8; LINE];
     let line = line::read(text, cells);
     let length = narrow(part(cells, line.bytes, line.answer), &mut low);
     let given = numbers(cells, line.bytes);
     let count = asked(given, &low, length, cells);
     if line.answer == line.last {
-        text::answer(given.letter, cells);
-        return 0;
+        text::answer(out, given.letter, cells)?;
+        return Ok(0);
     }
-    same(cells, line.answer, line.last, count)
+    Ok(same(cells, line.answer, line.last, count))
 }
 
 // What a question adds to the tally.
-fn compared(outcome: u8, tally: Tally) -> Tally {
+fn compared(out: &impl Print, outcome: u8, tally: Tally) -> io::Result<Tally> {
     let mut after = tally;
     if outcome == 0 {
-        return after;
+        return Ok(after);
     }
     after.group = wrapping_add_u64(tally.group, 1);
     if outcome == 2 {
         after.group_differ = wrapping_add_u64(tally.group_differ, 1);
-        word(b" line ");
-        decimal(tally.line);
-        word(b" differs,");
+        word(out, b" line ")?;
+        decimal(out, tally.line)?;
+        word(out, b" differs,")?;
     }
-    after
+    Ok(after)
 }
 
 // A group that is over.
-fn ended(tally: Tally) -> Tally {
+fn ended(out: &impl Print, tally: Tally) -> io::Result<Tally> {
     if 0 < tally.group {
-        count(tally.group, tally.group_differ);
+        count(out, tally.group, tally.group_differ)?;
     }
-    Tally {
+    Ok(Tally {
         group: 0,
         group_differ: 0,
         all: wrapping_add_u64(tally.all, tally.group),
         all_differ: wrapping_add_u64(tally.all_differ, tally.group_differ),
         line: tally.line,
-    }
+    })
 }
 
 // A line, and what was compared then. A name ends the group before it, and so do words.
-fn taken(text: &[u8], cells: &mut [u64; CELLS], tally: Tally) -> Tally {
+fn taken(
+    out: &impl Print,
+    text: &[u8],
+    cells: &mut [u64; CELLS],
+    tally: Tally,
+) -> io::Result<Tally> {
     let start: usize = 1;
     let mut after = tally;
     after.line = wrapping_add_u64(tally.line, 1);
     if text.len() == 0 {
-        return after;
+        return Ok(after);
     }
     match text[0] {
         b'#' => {}
-        b'.' => word(b"\n"),
+        b'.' => word(out, b"\n")?,
         b',' => {
-            after = ended(after);
-            word(&text[start..]);
+            after = ended(out, after)?;
+            word(out, &text[start..])?;
         }
         b'-' => {
-            after = ended(after);
-            word(text);
-            word(b":");
+            after = ended(out, after)?;
+            word(out, text)?;
+            word(out, b":")?;
         }
-        _ => after = compared(question(text, cells), after),
+        _ => after = compared(out, question(out, text, cells)?, after)?,
     }
-    after
+    Ok(after)
 }
 
 // All lines of a text, and what was compared.
-pub fn all(text: &[u8], cells: &mut [u64; CELLS]) -> Tally {
+pub fn all(out: &impl Print, text: &[u8], cells: &mut [u64; CELLS]) -> io::Result<Tally> {
     let mut tally = Tally {
         group: 0,
         group_differ: 0,
@@ -160,28 +168,33 @@ pub fn all(text: &[u8], cells: &mut [u64; CELLS]) -> Tally {
     while i < text.len() {
         if text[i] == b'\n' {
             if start <= i {
-                tally = taken(&text[start..i], cells, tally);
+                tally = taken(out, &text[start..i], cells, tally)?;
             }
             start = i + 1;
         }
         i += 1;
     }
-    ended(tally)
+    ended(out, tally)
 }
 
 // Reads standard input: how many bytes it has.
-pub fn read(text: &mut [u8; INPUT]) -> usize {
-    io::read_full(0, text)
+pub fn read(input: &mut impl Read, text: &mut [u8; INPUT]) -> io::Result<usize> {
+    read_full(input, text)
 }
 
 // The lines of so many bytes of standard input.
-pub fn stored(text: &[u8; INPUT], length: usize, cells: &mut [u64; CELLS]) {
+pub fn stored(
+    out: &impl Print,
+    text: &[u8; INPUT],
+    length: usize,
+    cells: &mut [u64; CELLS],
+) -> io::Result<()> {
     let input: &[u8] = text;
     let start: usize = 0;
     if INPUT < length {
-        return;
+        return Ok(());
     }
-    let tally = all(&input[start..length], cells);
-    word(b"in all:");
-    count(tally.all, tally.all_differ);
+    let tally = all(out, &input[start..length], cells)?;
+    word(out, b"in all:")?;
+    count(out, tally.all, tally.all_differ)
 }

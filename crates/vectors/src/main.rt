@@ -9,6 +9,7 @@ mod cells;
 mod examples;
 mod fields;
 mod floats;
+mod input;
 mod line;
 mod lines;
 mod reads;
@@ -21,15 +22,16 @@ mod writes;
 
 use crate::cells::CELLS;
 use crate::lines::INPUT;
+use std::io;
 
 // Runs the examples of the program's own text, then the stored answers of standard input.
-fn main() {
+fn main(rt: HostRuntime) -> io::Result<()> {
     let mut input = [0u8; INPUT];
     let mut cells = [0u64; CELLS];
-    examples::numbers(&mut cells);
-    examples::tracks(&mut cells);
-    examples::wrong(&mut cells);
-    examples::worked(&mut cells);
-    let length = lines::read(&mut input);
-    lines::stored(&input, length, &mut cells);
+    examples::numbers(&rt, &mut cells)?;
+    examples::tracks(&rt, &mut cells)?;
+    examples::wrong(&rt, &mut cells)?;
+    examples::worked(&rt, &mut cells)?;
+    let length = lines::read(&mut rt.stdin(), &mut input)?;
+    lines::stored(&rt, &input, length, &mut cells)
 }
