@@ -10,7 +10,7 @@ use Rattle.smf.proofs.Answer.{injective, answered}
 use Rattle.base.specs.declared.Range.{Range}
 use Rattle.base.proofs.RefusalNumbers.{refusal_of, number_back}
 use Rattle.header.proofs.IdenticalTimes.{back_smpte_time, same_smpte_time}
-use Rattle.meta.specs.Meta.{span_of, meta_of, meta_read}
+use Rattle.meta.specs.Meta.{meta_of, meta_read}
 use Rattle.meta.specs.declared.OptionU16.TheVariants as option
 use Rattle.meta.specs.declared.MetaMessage.{MetaMessage}
 use Rattle.meta.specs.declared.MetaMessage.TheVariants as meta

@@ -8,7 +8,6 @@ use Rattle.smf.proofs.Answer.{said_of}
 use Rattle.smf.proofs.MetaAt.{PayloadReached, payload_reached, meta_missing, meta_refused, meta_called}
 use Rattle.base.specs.Rules.{rules_of}
 use Rattle.number.specs.Payload.{payload_of, slice_read}
-use borrow.Author.Rules.{rules}
 use Rattle.meta.proofs.MetaMessage.read.Goals as goal
 use Rattle.meta.proofs.MetaMessage.read.Goals.{In-Slice}
 
