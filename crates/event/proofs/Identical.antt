@@ -1,6 +1,5 @@
 -- No two events, and no two answers, say the same.
-use mathlib.Core.Path.{◌≡◌, refl, ap, ap₂}
-use Prim.Native.Nat.{ℕ}
+use mathlib.Core.Path.{◌≡◌, refl, ap}
 use Rattle.smf.specs.Place.{Span}
 use Rattle.smf.specs.Kind as kind
 use Rattle.smf.specs.Event as smf
@@ -10,7 +9,6 @@ use Rattle.base.proofs.RefusalNumbers.{refusal_of, number_back}
 use Rattle.midi.proofs.Identical.{back_message, same_message}
 use Rattle.meta.proofs.Identical.{back_range, back_meta, same_meta}
 use Rattle.midi.specs.declared.MidiMessage.{MidiMessage}
-use Rattle.meta.specs.declared.MetaMessage.{MetaMessage}
 use Rattle.event.specs.Event.{kind_of, event_of, event_read}
 use Rattle.event.specs.declared.TrackEventKind.{TrackEventKind}
 use Rattle.event.specs.declared.TrackEventKind.TheVariants as track

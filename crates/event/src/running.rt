@@ -41,8 +41,7 @@ pub fn read_step(raw: &[u8], at: usize, running: Running, rules: Rules) -> Step
     }
 }
 
-// Reads the event at a place, and updates the running status that it is lent, also when it refuses. It has no branch,
-// since its proof walks through it by hand.
+// Reads the event at a place, and updates the running status that it is lent, also when it refuses. It has no branch.
 pub fn read_event<'a, 'b>(
     raw: &'a [u8],
     at: usize,

@@ -3,7 +3,6 @@ use mathlib.Core.Path.{◌∙◌, sym, ap}
 use Rattle.smf.proofs.Reading.{event_invalid, event-refused, event-body}
 use Rattle.number.specs.Varlen.{number_read_of}
 use Rattle.base.specs.Rules.{rules_of}
-use borrow.Author.Rules.{rules}
 use Rattle.event.proofs.TrackEvent.read.Goals as goal
 
 pub kind-requires : goal.kind-requires

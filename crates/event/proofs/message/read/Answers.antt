@@ -1,4 +1,5 @@
 -- `read` meets its contract, arm by arm.
+use Rattle.std.proofs.Common.{◌/◌, ◌≢◌, arith}
 use borrow.Author.Tests.{ne_eqb}
 use Rattle.smf.specs.Wire.{data_length}
 use Rattle.smf.specs.Kind.{message_one, message_two}
@@ -32,5 +33,11 @@ returns-in-13 c = rw c.in-13.is
 pub returns-in_default : goal.returns-in_default
 unfolding data_length message_with message_one message_two
 returns-in_default c =
-    let rest2 = c.in-8.rest in
-    rw (ne_eqb _ _ rest2.0.1, ne_eqb _ _ rest2.1, ne_eqb _ _ rest2.0.0.0.0.0.1, ne_eqb _ _ rest2.0.0.0.0.1, ne_eqb _ _ rest2.0.0.0.1, ne_eqb _ _ rest2.0.0.1)
+    let upper = c.args.status / 16 in
+    let not-8 : upper ≢ 8 = omega arith in
+    let not-9 : upper ≢ 9 = omega arith in
+    let not-10 : upper ≢ 10 = omega arith in
+    let not-11 : upper ≢ 11 = omega arith in
+    let not-12 : upper ≢ 12 = omega arith in
+    let not-13 : upper ≢ 13 = omega arith in
+    rw (ne_eqb _ _ not-12, ne_eqb _ _ not-13, ne_eqb _ _ not-8, ne_eqb _ _ not-9, ne_eqb _ _ not-10, ne_eqb _ _ not-11)

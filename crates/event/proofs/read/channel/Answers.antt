@@ -7,7 +7,6 @@ use Rattle.smf.specs.Wire.{data_length}
 use Rattle.smf.proofs.Reading.{channel_length, data_some, data_short, data_top, data_one, data-more, data-second-top, data-two}
 use Rattle.base.specs.Rules.{rules_of}
 use Rattle.event.specs.Begun.{delta_of}
-use borrow.Author.Rules.{rules}
 use Rattle.event.proofs.read.channel.Goals as goal
 use Rattle.event.proofs.read.channel.Goals.{After-msg_length-len, Else-len-eq1}
 
@@ -19,7 +18,8 @@ len c = c.msg_length-len.ensures ∙ channel_length c.args.status c.requires.1 c
 more : (c : Else-len-eq1) → c.args.at + 1 < length c.args.raw.now
 more c =
     let a = c.args in
-    data-more (rules_of a.rules) a.raw.now a.begun.start a.at a.status (delta_of a.begun) c.requires.0 (omega (arith, len c, c.bytes_from.ensures, c.if-bytes_from-len.false)) (λ e. c.if-len-eq1.false (len c ∙ e)) c.if-first-ge128.false
+    let length-is : c.msg_length-len.result ≡ data_length a.status = c.msg_length-len.ensures ∙ channel_length a.status c.requires.1 c.requires.2 in
+    data-more (rules_of a.rules) a.raw.now a.begun.start a.at a.status (delta_of a.begun) c.requires.0 (omega (arith, length-is, c.bytes_from.ensures, c.if-bytes_from-len.false)) (λ e. c.if-len-eq1.false (length-is ∙ e)) c.if-first-ge128.false
 
 pub returns-then-bytes_from-len : goal.returns-then-bytes_from-len
 returns-then-bytes_from-len c =

@@ -7,7 +7,6 @@ use Rattle.meta.specs.Meta.{meta_read}
 use Rattle.meta.specs.declared.ReadMeta.TheVariants as read
 use Rattle.base.specs.Rules.{rules_of}
 use Rattle.event.specs.Begun.{delta_of}
-use borrow.Author.Rules.{rules}
 use Rattle.event.proofs.read.meta.Goals as goal
 use Rattle.event.proofs.read.meta.Goals.{In-Message}
 

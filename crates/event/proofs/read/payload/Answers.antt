@@ -11,7 +11,6 @@ use Rattle.number.specs.Payload.{payload_of, slice_read}
 use Rattle.meta.specs.Meta.{span_of}
 use Rattle.base.specs.Rules.{rules_of}
 use Rattle.event.specs.Begun.{delta_of}
-use borrow.Author.Rules.{rules}
 use Rattle.event.proofs.read.payload.Goals as goal
 use Rattle.event.proofs.read.payload.Goals.{In-Slice}
 

@@ -1,20 +1,21 @@
 -- `status_kind` meets its contract.
 use mathlib.Core.Path.{◌∙◌}
-use mathlib.Core.Logic.{inl, inr}
+use Rattle.std.proofs.Common.{◌≢◌, arith}
 use lib.ListN.{drop}
 use Rattle.smf.specs.Event.{placed, name_raw}
 use Rattle.smf.proofs.Reading.{status_meta, status_payload, status-common, status-realtime}
 use Rattle.base.specs.Rules.{rules_of}
 use Rattle.event.specs.Begun.{delta_of}
-use borrow.Author.Rules.{rules}
 use Rattle.event.proofs.read.status_kind.Goals as goal
 
 pub returns-then-status-lt247 : goal.returns-then-status-lt247
 unfolding placed name_raw
 returns-then-status-lt247 c =
     let a = c.args in
+    let not-240 : a.status ≢ 240 = grind arith in
+    let not-247 : a.status ≢ 247 = grind arith in
     c.refused.ensures
-    ∙ rw (status-common (rules_of a.rules) a.running.status (delta_of a.begun) a.status (drop a.at a.raw.now) c.requires.3 c.in-255.rest.0.1 (λ e. c.in-255.rest.1 (inl e)) (λ e. c.in-255.rest.1 (inr e)) c.if-status-lt247.true)
+    ∙ rw (status-common (rules_of a.rules) a.running.status (delta_of a.begun) a.status (drop a.at a.raw.now) c.requires.3 (omega arith) not-240 not-247 c.if-status-lt247.true)
 
 pub returns-in-255 : goal.returns-in-255
 returns-in-255 c =
@@ -32,5 +33,7 @@ pub returns-else-status-lt247 : goal.returns-else-status-lt247
 unfolding placed name_raw
 returns-else-status-lt247 c =
     let a = c.args in
+    let not-240 : a.status ≢ 240 = grind arith in
+    let not-247 : a.status ≢ 247 = grind arith in
     c.refused-in_default.ensures
-    ∙ rw (status-realtime (rules_of a.rules) a.running.status (delta_of a.begun) a.status (drop a.at a.raw.now) c.requires.3 c.in-255.rest.0.1 (λ e. c.in-255.rest.1 (inl e)) (λ e. c.in-255.rest.1 (inr e)) c.if-status-lt247.false)
+    ∙ rw (status-realtime (rules_of a.rules) a.running.status (delta_of a.begun) a.status (drop a.at a.raw.now) c.requires.3 (omega arith) not-240 not-247 c.if-status-lt247.false)
