@@ -10,13 +10,13 @@ use Rattle.player.proofs.entries.put_row.Goals.{At-loop-i}
 
 -- the cells stay as many
 kept : (c : At-loop-i) → length c.loop-i.rows ≡ length c.args.rows.now
-kept c = let a = c.args in laid-length a.rows.now a.at a.t3 c.requires (search rules) c.loop-i.invariant
+kept c = let a = c.args in laid-length a.rows.now a.at a.row c.requires (search rules) c.loop-i.invariant
 
 pub bounds-rows-at : goal.bounds-rows-at
 bounds-rows-at c = omega (arith, kept (goal.at.bounds-rows-at c).At-loop-i)
 
 pub loop-i-preserved : goal.loop-i-preserved
-loop-i-preserved c = let a = c.args in laid_more a.rows.now a.at a.t3 c.requires (search rules) c.loop-i.invariant c.loop-i-test.true
+loop-i-preserved c = let a = c.args in laid_more a.rows.now a.at a.row c.requires (search rules) c.loop-i.invariant c.loop-i-test.true
 
 pub returns : goal.returns
-returns c = let a = c.args in laid-all a.rows.now a.at a.t3 c.requires (search rules) c.loop-i.invariant c.loop-i-test.false
+returns c = let a = c.args in laid-all a.rows.now a.at a.row c.requires (search rules) c.loop-i.invariant c.loop-i-test.false

@@ -15,8 +15,8 @@ use Rattle.player.proofs.entries.put_rows.Goals as goal
 pub loop-index-init : goal.loop-index-init
 loop-index-init c =
     let a = c.args in
-    let long : length a.t1.records ≡ capacity = search (rules, unmapped) in
-    (omega (arith, length-map a.t1.records record_of, c.requires), c.requires.1, laid_none _ _ _ _ _)
+    let long : length a.list.records ≡ capacity = search (rules, unmapped) in
+    (omega (arith, length-map a.list.records record_of, c.requires.count_le_capacity), c.requires.width_in_bounds, laid_none _ _ _ _ _)
 
 pub put_row-requires : goal.put_row-requires
 put_row-requires c =
@@ -26,7 +26,7 @@ put_row-requires c =
 pub loop-index-preserved : goal.loop-index-preserved
 loop-index-preserved c =
     let l = c.loop-index in
-    let rs = c.args.t1.records in
+    let rs = c.args.list.records in
     let row = c.event_row.ensures ∙ ap event_row (sym (get_or-map record_of rs l.index past)) in (
       l.invariant.0,
       l.invariant.1,

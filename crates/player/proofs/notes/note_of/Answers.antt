@@ -13,7 +13,7 @@ returns-in-NoteOn c = rw (c.in-Midi.is, c.in-NoteOn.is) c.leaving-in-NoteOn.ensu
 
 pub returns-in_default-message : goal.returns-in_default-message
 unfolding kind_note
-returns-in_default-message c = let k = c.kind-1.given in rw k.1 (no_note k.0.0.0 k.0.1.0 c.in-NoteOff.keys3)
+returns-in_default-message c = let d = c.in_default-message in rw c.in-Midi.is (no_note c.in-Midi.channel.0 c.in-Midi.message d.not-NoteOff d.not-NoteOn)
 
 pub returns-in_default : goal.returns-in_default
-returns-in_default c = no_message c.args.kind c.in-Midi.keys2
+returns-in_default c = no_message c.args.kind c.in_default.not-Midi

@@ -1,10 +1,10 @@
 -- `silence_from` meets its contract: the list has the events so far, and the rest is what the places ahead give.
 use mathlib.Core.Path.{sym, ◌∙◌}
-use mathlib.Core.Logic.{⊎_elim}
 use Prim.Native.Nat.{◌-◌}
 use Rattle.player.proofs.Counting.{is_silent, is_sounding}
 use Rattle.player.proofs.Scanning.{scanned_first, scanned-full, scanned-all, scanned-silent, scanned-sounding}
 use Rattle.player.proofs.silence.silence_from.Goals as goal
+use Rattle.player.proofs.silence.silence_from.Goals.{then-sounds, else-sounds}
 
 pub loop-place-init : goal.loop-place-init
 loop-place-init c = scanned_first _ _ _ _ _ c.new-list.ensures
@@ -15,11 +15,12 @@ returns-then-count-ge-CAPACITY c = scanned-full _ _ _ c.loop-place.invariant c.i
 pub loop-place-preserved : goal.loop-place-preserved
 loop-place-preserved c =
     let s = c.loop-place.invariant in
-    ⊎_elim
-    (λ w. rw w.3
-    (scanned-sounding _ _ _ s c.if-count-ge-CAPACITY.false c.loop-place-test.true (is_sounding _ (sym c.sounds.ensures ∙ w.0.taken)) w.2.result (w.2.ensures ∙ w.1.ensures)))
-    (λ w. rw w.1 (scanned-silent _ _ _ s c.loop-place-test.true (is_silent _ (sym c.sounds.ensures ∙ w.0.left))))
-    c.if-sounds.branch
+    elim c.if-sounds.branch [
+      | then-sounds w ↦
+          rw w.list-is
+          (scanned-sounding _ _ _ s c.if-count-ge-CAPACITY.false c.loop-place-test.true (is_sounding _ (sym c.sounds.ensures ∙ w.if-sounds.true)) w.recorded-kept.result (w.recorded-kept.ensures ∙ w.note_off.ensures))
+      | else-sounds w ↦ rw w.list-is (scanned-silent _ _ _ s c.loop-place-test.true (is_silent _ (sym c.sounds.ensures ∙ w.if-sounds.false)))
+    ]
 
 pub returns : goal.returns
 returns c = scanned-all _ _ _ c.loop-place.invariant c.loop-place-test.false

@@ -10,9 +10,7 @@ returns-then-event-ge268435456 c = rw (le-ltb c.args.event.delta.0 (2 ^ 28) c.if
 
 pub returns-then-channel-ge16 : goal.returns-then-channel-ge16
 unfolding event_within kind_within
-returns-then-channel-ge16 c =
-    let k = c.kind-1.given in
-    rw (lt-ltb _ _ c.if-event-ge268435456.false, k.1, le-ltb k.0.0.0 16 c.if-channel-ge16.true)
+returns-then-channel-ge16 c = rw (lt-ltb _ _ c.if-event-ge268435456.false, c.in-Midi.is, le-ltb _ _ c.if-channel-ge16.true)
 
 pub returns-else-channel-ge16 : goal.returns-else-channel-ge16
 unfolding event_within kind_within

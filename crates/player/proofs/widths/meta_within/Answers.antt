@@ -16,4 +16,4 @@ unfolding meta_within
 returns-in-Tempo c = rw c.in-Tempo.is
 
 pub returns-in_default : goal.returns-in_default
-returns-in_default c = unrestricted c.args.message c.in-MidiChannel.keys4
+returns-in_default c = let d = c.in_default in unrestricted c.args.message d.not-MidiChannel d.not-MidiPort d.not-Tempo
