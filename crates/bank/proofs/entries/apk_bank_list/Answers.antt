@@ -23,11 +23,10 @@ pub returns-in-Refused : goal.returns-in-Refused
 returns-in-Refused c =
     let a = c.args in
     let t = c.bank_track in
-    rw (said-unlisted most_tracks a.block.now a.index t.result t.ensures (from_bits a.bits) capacity _ c.in-Refused.is) (c.number.ensures, (refl, (refl, (refl, (refl, refl)))))
+    rw (said-unlisted most_tracks a.block.now a.index t.result t.ensures (from_bits a.bits) capacity _ c.in-Refused.is) (record { answer = c.number.ensures; rows = refl; count = refl; place = refl; after = refl; padding = refl })
 
 pub returns-in-Track : goal.returns-in-Track
 returns-in-Track c =
     let a = c.args in
     let t = c.bank_track in
-    let f = c.range-1.given in
-    rw (said-listed most_tracks a.block.now a.index t.result t.ensures (from_bits a.bits) capacity _ f.1, ← range_bytes a.block.now f.0.0) c.apk_list_read.ensures
+    rw (said-listed most_tracks a.block.now a.index t.result t.ensures (from_bits a.bits) capacity _ c.in-Track.is, ← range_bytes a.block.now c.in-Track.range) c.apk_list_read.ensures

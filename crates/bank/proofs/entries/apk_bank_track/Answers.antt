@@ -8,10 +8,10 @@ pub returns-in-Refused : goal.returns-in-Refused
 returns-in-Refused c =
     let a = c.args in
     let t = c.bank_track in
-    rw (said_refused most_tracks a.block.now a.index t.result t.ensures _ c.in-Refused.is) (c.number.ensures, (refl, refl))
+    rw (said_refused most_tracks a.block.now a.index t.result t.ensures _ c.in-Refused.is) (record { answer = c.number.ensures; start = refl; length = refl })
 
 pub returns-in-Track : goal.returns-in-Track
 returns-in-Track c =
     let a = c.args in
     let t = c.bank_track in
-    rw (said_there most_tracks a.block.now a.index t.result t.ensures _ c.in-Track.is) (refl, (refl, refl))
+    rw (said_there most_tracks a.block.now a.index t.result t.ensures _ c.in-Track.is) (record { answer = refl; start = refl; length = refl })

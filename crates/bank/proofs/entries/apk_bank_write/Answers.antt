@@ -12,7 +12,7 @@ returns-in-Refused c =
     let w = c.write_bank in
     let r = c.ranges_in.ensures in
     let e = rw c.in-Refused.is at (w.ensures ∙ ap (λ (l : List Span). write_bank most_tracks a.bytes.now l a.count a.out.now) r) in
-    rw (← e) (c.number.ensures, (refl, refl))
+    rw (← e) (record { answer = c.number.ensures; buffer = refl; total = refl })
 
 pub returns-in-Total : goal.returns-in-Total
 returns-in-Total c =
@@ -20,4 +20,4 @@ returns-in-Total c =
     let w = c.write_bank in
     let r = c.ranges_in.ensures in
     let e = rw c.in-Total.is at (w.ensures ∙ ap (λ (l : List Span). write_bank most_tracks a.bytes.now l a.count a.out.now) r) in
-    rw (← e) (refl, (refl, refl))
+    rw (← e) (record { answer = refl; buffer = refl; total = refl })

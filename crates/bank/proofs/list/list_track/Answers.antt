@@ -34,5 +34,4 @@ unfolding list_answer
 returns-in-Track c =
     let a = c.args in
     let t = c.bank_track in
-    let f = c.range-1.given in
-    rw (said-listed most_tracks a.block.now a.index t.result t.ensures (rules_of a.rules) capacity _ f.1, ← range_bytes a.block.now f.0.0) (ap (λ (l : ListHeld). record { list = l; verdict = gives tt }) c.read-read.ensures)
+    rw (said-listed most_tracks a.block.now a.index t.result t.ensures (rules_of a.rules) capacity _ c.in-Track.is, ← range_bytes a.block.now c.in-Track.range) (ap (λ (l : ListHeld). record { list = l; verdict = gives tt }) c.read-read.ensures)

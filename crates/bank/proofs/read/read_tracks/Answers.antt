@@ -7,10 +7,10 @@ use Rattle.bank.proofs.Gaps.{walked_first, walked-length, walked-apart, walked_m
 use Rattle.bank.proofs.read.read_tracks.Goals as goal
 
 pub loop-index-init : goal.loop-index-init
-loop-index-init c = let a = c.args in (c.requires.0, walked_first most_tracks a.count _ a.block.now _ c.no_tracks-tracks.ensures)
+loop-index-init c = let a = c.args in (c.requires.count_le_most_tracks, walked_first most_tracks a.count _ a.block.now _ c.no_tracks-tracks.ensures)
 
 pub wide_at-requires : goal.wide_at-requires
-wide_at-requires c = omega (arith, c.requires.1)
+wide_at-requires c = omega (arith, c.requires.count_in_bounds)
 
 pub returns-then-wide_at-place : goal.returns-then-wide_at-place
 returns-then-wide_at-place c =
@@ -19,7 +19,7 @@ returns-then-wide_at-place c =
     c.refused.ensures ∙ walked-apart most_tracks a.count _ a.block.now w (omega arith) (λ e. c.if-wide_at-place.true (c.wide_at.ensures.0 ∙ e))
 
 pub wide_at-length-requires : goal.wide_at-length-requires
-wide_at-length-requires c = omega (arith, c.requires.1)
+wide_at-length-requires c = omega (arith, c.requires.count_in_bounds)
 
 pub bounds-tracks-index : goal.bounds-tracks-index
 bounds-tracks-index c =

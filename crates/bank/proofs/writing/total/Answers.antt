@@ -12,15 +12,15 @@ use Rattle.bank.proofs.writing.total.Goals as goal
 
 pub loop-index-init : goal.loop-index-init
 loop-index-init c =
-    let size : length c.args.t2 ≡ most_tracks = search rules in
-    let long : c.args.count ≤ length c.args.t2 = omega (arith, c.requires.0) in
-    (long, (rest_first _ _ _ long c.requires.1, omega (arith, c.requires.0)))
+    let size : length c.args.ranges ≡ most_tracks = search rules in
+    let long : c.args.count ≤ length c.args.ranges = omega (arith, c.requires.count_le_most_tracks) in
+    (long, (rest_first _ _ _ long c.requires.ranges_value, omega (arith, c.requires.count_le_most_tracks)))
 
 pub returns-then-sum-range : goal.returns-then-sum-range
 returns-then-sum-range c =
     let a = c.args in
     let i = c.loop-index.invariant in
-    measured_over (bank_length (tracks_of a.bytes.now (counted a.bytes.now a.t2 a.count))) (omega (arith, rest-bound a.bytes.now a.t2 a.count i.0 i.1.0 (record { start = 0; length = 0 }) c.loop-index-test.true, i.1.1))
+    measured_over (bank_length (tracks_of a.bytes.now (counted a.bytes.now a.ranges a.count))) (omega (arith, rest-bound a.bytes.now a.ranges a.count i.0 i.1.0 (record { start = 0; length = 0 }) c.loop-index-test.true, i.1.1))
 
 pub overflow_add-sum-in-loop-index : goal.overflow_add-sum-in-loop-index
 overflow_add-sum-in-loop-index c = let i = c.loop-index.invariant in omega (arith, i.1.1)
@@ -29,10 +29,10 @@ pub loop-index-preserved : goal.loop-index-preserved
 loop-index-preserved c =
     let a = c.args in
     let i = c.loop-index.invariant in
-    (i.0, (rest_more a.bytes.now a.t2 a.count i.0 i.1.0 _ c.loop-index-test.true, omega (arith, i.1.1)))
+    (i.0, (rest_more a.bytes.now a.ranges a.count i.0 i.1.0 _ c.loop-index-test.true, omega (arith, i.1.1)))
 
 pub returns : goal.returns
 returns c =
     let a = c.args in
     let i = c.loop-index.invariant in
-    measured_fits _ _ (rest_end a.bytes.now a.t2 a.count i.0 i.1.0 c.loop-index-test.false) i.1.1
+    measured_fits _ _ (rest_end a.bytes.now a.ranges a.count i.0 i.1.0 c.loop-index-test.false) i.1.1
