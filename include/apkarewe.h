@@ -32,7 +32,7 @@
  *
  * What is proved. Of each entry, for all numbers and bytes that it can be given: it ends, it reads and writes within
  * the slices only, its answer is the one that its definition gives, and so is what each lent value and each lent byte
- * holds at the end, after a refusal too. The definition is named with each entry: smf.Lists.listAt is listAt in
+ * holds at the end, after a refusal too. The definition is named with each entry: smf.Lists.list_at is listAt in
  * crates/smf/specs/Lists.antt. Those of smf are written from Standard MIDI Files 1.0 and from the project's rules
  * (docs/RULES.md), those of player and bank from the rules, and none from the code; those of loader, loader_track,
  * rows, same and write, and player.Entries and bank.Entries, say how C sees an event, a table or ranges, and are made
@@ -173,7 +173,7 @@ enum apk_kind {
  * where an event was refused, and the events before it stand: rows, count, place, after and padding are set as ever. 20
  * where the cells are too few for the events read, and only then everything is as it came.
  * Payloads are start and length in these bytes, which are not copied. An empty slice is an empty list.
- * Definition: smf.Lists.listAt, laid out by rows.Sheet.sheetOf. */
+ * Definition: smf.Lists.list_at, laid out by rows.Sheet.sheet_of. */
 uint8_t apk_list_read(const uint8_t *bytes, size_t bytes_len, size_t at, uint8_t running, uint8_t rules,
                       uint64_t *rows, size_t cells, size_t *count, size_t *place, uint8_t *after, size_t *padding);
 
@@ -186,14 +186,14 @@ uint8_t apk_list_read(const uint8_t *bytes, size_t bytes_len, size_t at, uint8_t
  * Refuses 1, then 21, then the first illegal event by 18, 19, 22 or 23. A row that is no event's is refused by 18: no
  * such kind; a field that is no byte (of a bend or a track number above 65,535, of a tempo or the delta above
  * 4,294,967,295); a rate that is none; or not all of its cells there.
- * Definition: loader_track.Lists.sheetSize, that is smf.Lists.sizeList of the rows' events. */
+ * Definition: loader_track.Lists.sheet_size, that is smf.Lists.size_list of the rows' events. */
 uint8_t apk_list_length(const uint64_t *rows, size_t cells, size_t count, const uint8_t *payload, size_t payload_len,
                         uint8_t running, uint8_t rules, size_t *length, uint8_t *after, size_t *index);
 
 /* Writes so many rows from out[0] on, in the shortest form, as apk_list_length measures them.
  *   out, out_len  where the bytes go; nothing behind them is changed, and after a refusal nothing at all
  * The rest, and the refusals, as there; last of all 20 where out is too short. An empty list fits in no bytes.
- * Definition: loader_track.Lists.sheetWritten, that is smf.Lists.writeList of the rows' events. */
+ * Definition: loader_track.Lists.sheet_written, that is smf.Lists.write_list of the rows' events. */
 uint8_t apk_list_write(const uint64_t *rows, size_t cells, size_t count, const uint8_t *payload, size_t payload_len,
                        uint8_t running, uint8_t rules, uint8_t *out, size_t out_len, size_t *length, uint8_t *after,
                        size_t *index);
@@ -201,7 +201,7 @@ uint8_t apk_list_write(const uint64_t *rows, size_t cells, size_t count, const u
 /* Whether two lists are the same, each over the bytes that its payloads stand in: counts, deltas, kinds, fields and
  * payload bytes agree; where payloads start does not count. *same is 1 where they are, 0 where they are not.
  * Refuses 21 where a count is above APK_LIST_ROWS, then 18 where a row of either is no event's, or its cells are not
- * all there; then *same is as it came. Definition: smf.Lists.SameList, asked by same.OfRows.listsAsked. */
+ * all there; then *same is as it came. Definition: smf.Lists.SameList, asked by same.OfRows.lists_asked. */
 uint8_t apk_list_same(const uint64_t *rows_a, size_t cells_a, size_t count_a,
                       const uint8_t *bytes_a, size_t bytes_a_len,
                       const uint64_t *rows_b, size_t cells_b, size_t count_b,
@@ -213,24 +213,24 @@ uint8_t apk_list_same(const uint64_t *rows_a, size_t cells_a, size_t count_a,
  * padding. Refuses 1 to 14; then the row is as it came, *used and *padding are 0, whatever was read of the event, and
  * *after is the running status that it leaves: as given for 1, 4 to 7, and for 2 and 3 in a delta; its own status for 8
  * and 9; none for the others.
- * Definition: smf.Event.eventAt, laid out by rows.Rows.eventRow. */
+ * Definition: smf.Event.event_at, laid out by rows.Rows.event_row. */
 uint8_t apk_event_read(const uint8_t *bytes, size_t bytes_len, size_t at, uint8_t running, uint8_t rules,
                        uint64_t row[APK_CELLS], size_t *used, uint8_t *after, size_t *padding);
 
 /* How many bytes a row's event has when written from a running status, and the running status after it.
- * Refuses 1, 18, 19, 22, 23; then both are as they came. Definition: write.Size.sizeEvent of the row's event. */
+ * Refuses 1, 18, 19, 22, 23; then both are as they came. Definition: write.Size.size_event of the row's event. */
 uint8_t apk_event_length(const uint64_t row[APK_CELLS], const uint8_t *payload, size_t payload_len, uint8_t running,
                          uint8_t rules, size_t *length, uint8_t *after);
 
 /* Writes a row's event at a place of out, in the shortest form: *next is the place after it, *after the running status.
  * Refuses 1, 18, 19, 22, 23, 20; then every byte and *next are as they came, and *after is the running status as given.
- * Definition: smf.Event.writeEvent of the row's event. */
+ * Definition: smf.Event.write_event of the row's event. */
 uint8_t apk_event_write(const uint64_t row[APK_CELLS], const uint8_t *payload, size_t payload_len, uint8_t running,
                         uint8_t rules, uint8_t *out, size_t out_len, size_t at, size_t *next, uint8_t *after);
 
 /* Whether two events are the same, by the rule of apk_list_same: *same is 1 where they are, 0 where they are not.
  * Refuses 18 where a row is no event's; then *same is as it came.
- * Definition: smf.Event.Same, asked by same.OfRows.rowsAsked. */
+ * Definition: smf.Event.Same, asked by same.OfRows.rows_asked. */
 uint8_t apk_event_same(const uint64_t row_a[APK_CELLS], const uint8_t *bytes_a, size_t bytes_a_len,
                        const uint64_t row_b[APK_CELLS], const uint8_t *bytes_b, size_t bytes_b_len, uint8_t *same);
 
@@ -248,7 +248,7 @@ uint8_t apk_event_same(const uint64_t row_a[APK_CELLS], const uint8_t *bytes_a, 
  * Refuses 21, then 18 where any of the rows has a delta or a restricted field above its width (a channel, key,
  * velocity, controller, value, program, bend, port or tempo), or is no event's, as for apk_list_length. An SMPTE time
  * outside its ranges and a payload's start and length are not looked at.
- * Definition: player.Notes.tableAfter of the rows' events, which are accepted by player.Entries.rowsAccepted. */
+ * Definition: player.Notes.table_after of the rows' events, which are accepted by player.Entries.rows_accepted. */
 uint8_t apk_sounding_after(const uint64_t *rows, size_t cells, size_t count, uint8_t table[APK_TABLE_BYTES]);
 
 /* How many keys of each channel sound, 0 to APK_KEYS. Refuses nothing, and answers nothing.
@@ -263,7 +263,7 @@ void apk_sounding_counts(const uint8_t table[APK_TABLE_BYTES], uint8_t sounding[
  *                to ask for
  * Refuses 18 where the channel is above 15 or the key above 127, then 20 where the cells are too few for the rows; then
  * there is no row: count is 0, and every cell is as it came.
- * Definition: player.Sounding.silence, laid out by rows.Sheet.sheetOf. */
+ * Definition: player.Sounding.silence, laid out by rows.Sheet.sheet_of. */
 uint8_t apk_sounding_silence(const uint8_t table[APK_TABLE_BYTES], uint8_t channel, uint8_t key,
                              uint64_t *rows, size_t cells, size_t *count);
 
@@ -280,11 +280,11 @@ uint8_t apk_sounding_silence(const uint8_t table[APK_TABLE_BYTES], uint8_t chann
  *   ranges  two cells for each track, its start and its length; the cells past the count are 0
  *   count   how many tracks there are
  * Refuses 25, 24, 26; then everything is as it came. What the tracks hold is not looked at.
- * Definition: bank.Read.readBank, laid out by bank.Entries.cellsOf. */
+ * Definition: bank.Read.read_bank, laid out by bank.Entries.cells_of. */
 uint8_t apk_bank_read(const uint8_t *block, size_t block_len, uint64_t ranges[APK_BANK_CELLS], size_t *count);
 
 /* Where the track of an index, counted from 0, stands in the block. Refuses 25, 24, 26, then 34; then both values are
- * as they came. Definition: bank.Read.trackAt. */
+ * as they came. Definition: bank.Read.track_at. */
 uint8_t apk_bank_track(const uint8_t *block, size_t block_len, size_t index, size_t *start, size_t *length);
 
 /* Lists the track of an index: what apk_list_read does with the track's bytes by themselves, from place 0 and no
@@ -292,7 +292,7 @@ uint8_t apk_bank_track(const uint8_t *block, size_t block_len, size_t index, siz
  * apk_list_read, of the `length` bytes at `block + start`, both of which apk_bank_track gives, at *place from *after.
  *   rows, cells, count, place, after, padding  as for apk_list_read
  * Refuses 25, 24, 26, then 34; then everything is as it came. Else it answers what apk_list_read answers, and leaves
- * what that leaves. Definition: bank.Read.trackListed, laid out by bank.Entries.listCells. */
+ * what that leaves. Definition: bank.Read.track_listed, laid out by bank.Entries.list_cells. */
 uint8_t apk_bank_list(const uint8_t *block, size_t block_len, size_t index, uint8_t rules,
                       uint64_t *rows, size_t cells, size_t *count, size_t *place, uint8_t *after, size_t *padding);
 
@@ -305,84 +305,84 @@ uint8_t apk_bank_list(const uint8_t *block, size_t block_len, size_t index, uint
  * Refuses 25 where the count is above APK_BANK_TRACKS; then 19 where a range is not inside the bytes, and a start
  * beyond their end counts even at length 0; then 20 where the bank would be above APK_BANK_BYTES bytes, or out is too
  * short.
- * Definition: bank.Write.writeBank, of the ranges that bank.Entries.rangesIn makes of the cells. */
+ * Definition: bank.Write.write_bank, of the ranges that bank.Entries.ranges_in makes of the cells. */
 uint8_t apk_bank_write(const uint8_t *bytes, size_t bytes_len, const uint64_t ranges[APK_BANK_CELLS], size_t count,
                        uint8_t *out, size_t out_len, size_t *total);
 
 /* Numbers and payloads ------------------------------------------------------------------------------------------- */
 
 /* Reads the variable-length number at a place: its value, the place after it, and its padding. Refuses 2, 3.
- * Definition: smf.Place.numberAt. */
+ * Definition: smf.Place.number_at. */
 uint8_t apk_number_read(const uint8_t *bytes, size_t bytes_len, size_t at, uint8_t rules,
                         uint32_t *value, size_t *next, size_t *padding);
 
 /* How many bytes the shortest form of a number has, 1 to 4; 4 above 268,435,455. Refuses nothing.
- * Definition: the length of smf.Number.encodeNumber. */
+ * Definition: the length of smf.Number.encode_number. */
 size_t apk_number_length(uint32_t value);
 
 /* Writes a number at a place of out, in the shortest form: *next is the place after it. Refuses 18, 20.
- * Definition: smf.Write.write of smf.Write.numberBytes. */
+ * Definition: smf.Write.write of smf.Write.number_bytes. */
 uint8_t apk_number_write(uint32_t value, uint8_t *out, size_t out_len, size_t at, size_t *next);
 
 /* Reads the payload at a place, a number and so many bytes: where these start, how many there are, and the padding of
  * the number, also where lenient reading takes fewer bytes than it says. The place after them is the sum of start and
- * length. Refuses 2, 3, 11. Definition: smf.Place.payloadAt. */
+ * length. Refuses 2, 3, 11. Definition: smf.Place.payload_at. */
 uint8_t apk_payload_read(const uint8_t *bytes, size_t bytes_len, size_t at, uint8_t rules,
                          size_t *start, size_t *length, size_t *padding);
 
 /* Writes a range of the payload bytes, with its number in front, at a place of out: *next is the place after it.
- * Refuses 19, 22, 20. Definition: smf.Write.write of smf.Write.payloadBytes. */
+ * Refuses 19, 22, 20. Definition: smf.Write.write of smf.Write.payload_bytes. */
 uint8_t apk_payload_write(const uint8_t *payload, size_t payload_len, size_t start, size_t length,
                           uint8_t *out, size_t out_len, size_t at, size_t *next);
 
 /* Header fields -------------------------------------------------------------------------------------------------- */
 
 /* The format that the bytes begin with, 0 to 2; what follows its two bytes is not looked at. Refuses 17, 15.
- * Definition: smf.Header.readFormat. */
+ * Definition: smf.Header.read_format. */
 uint8_t apk_format_read(const uint8_t *bytes, size_t bytes_len, uint8_t *format);
 
-/* The two bytes of a format. Refuses 15. Definition: loader.Fields.encodeFormat. */
+/* The two bytes of a format. Refuses 15. Definition: loader.Fields.encode_format. */
 uint8_t apk_format_encode(uint8_t format, uint8_t bytes[2]);
 
 /* The timing that the bytes begin with. *rate 0: *ticks in a beat, *subframe 0. Any other rate: *subframe ticks in a
- * frame, *ticks 0. Refuses 17, 16. Definition: smf.Header.readTiming. */
+ * frame, *ticks 0. Refuses 17, 16. Definition: smf.Header.read_timing. */
 uint8_t apk_timing_read(const uint8_t *bytes, size_t bytes_len, uint16_t *ticks, uint8_t *rate, uint8_t *subframe);
 
 /* The two bytes of a timing, given as it is read. Refuses 16, and 18 for ticks above 32,767.
- * Definition: smf.Header.encodeTiming of loader.Fields.timingGiven. */
+ * Definition: smf.Header.encode_timing of loader.Fields.timing_given. */
 uint8_t apk_timing_encode(uint16_t ticks, uint8_t rate, uint8_t subframe, uint8_t bytes[2]);
 
 /* Rates and SMPTE times ------------------------------------------------------------------------------------------ */
 /* A rate is its number: 24, 25, 29 (30 drop frame), 30. A time is hour below 24, minute and second below 60, frame
  * below the rate's number, subframe below 100, and the rate. Each entry that takes a time refuses 16 first. */
 
-/* The rate of a code's low two bits. Refuses nothing. Definition: smf.Smpte.rateOfCode. */
+/* The rate of a code's low two bits. Refuses nothing. Definition: smf.Smpte.rate_of_code. */
 uint8_t apk_fps_from_code(uint8_t code);
 
-/* The two-bit code of a rate. Refuses 16. Definition: smf.Smpte.codeOfRate. */
+/* The two-bit code of a rate. Refuses 16. Definition: smf.Smpte.code_of_rate. */
 uint8_t apk_fps_as_code(uint8_t rate, uint8_t *code);
 
-/* The rate of a whole number of frames in a second. Refuses 16. Definition: smf.Smpte.toRate. */
+/* The rate of a whole number of frames in a second. Refuses 16. Definition: smf.Smpte.to_rate. */
 uint8_t apk_fps_from_int(uint8_t raw, uint8_t *rate);
 
-/* The frames in a second at a rate, 30 / 1.001 for 29. Refuses 16. Definition: smf.Seconds.rateFloat. */
+/* The frames in a second at a rate, 30 / 1.001 for 29. Refuses 16. Definition: smf.Seconds.rate_float. */
 uint8_t apk_fps_as_f32(uint8_t rate, float *frames);
 
-/* Whether six numbers are a time: 0 if so. Refuses 16, 13. Definition: smf.Smpte.toTime. */
+/* Whether six numbers are a time: 0 if so. Refuses 16, 13. Definition: smf.Smpte.to_time. */
 uint8_t apk_smpte_new(uint8_t hour, uint8_t minute, uint8_t second, uint8_t frame, uint8_t subframe, uint8_t rate,
                       uint8_t rules);
 
 /* The time of a message's five bytes, the first of which holds hour and rate code: the six numbers. Refuses 13.
- * Definition: smf.Smpte.timeOf. */
+ * Definition: smf.Smpte.time_of. */
 uint8_t apk_smpte_read(uint8_t first, uint8_t minute, uint8_t second, uint8_t frame, uint8_t subframe,
                        uint8_t rules, uint8_t time[6]);
 
-/* The five bytes of a time. Refuses 16, 18. Definition: smf.Smpte.encodeTime. */
+/* The five bytes of a time. Refuses 16, 18. Definition: smf.Smpte.encode_time. */
 uint8_t apk_smpte_encode(uint8_t hour, uint8_t minute, uint8_t second, uint8_t frame, uint8_t subframe, uint8_t rate,
                          uint8_t rules, uint8_t bytes[5]);
 
 /* A time's seconds, with frames and subframes as their fraction, without hours and minutes. Refuses 16, 13.
- * Definition: smf.Seconds.secondsOf, operation for operation. */
+ * Definition: smf.Seconds.seconds_of, operation for operation. */
 uint8_t apk_smpte_second_f32(uint8_t hour, uint8_t minute, uint8_t second, uint8_t frame, uint8_t subframe,
                              uint8_t rate, uint8_t rules, float *seconds);
 
@@ -394,20 +394,20 @@ uint8_t apk_smpte_position(uint8_t hour, uint8_t minute, uint8_t second, uint8_t
 /* A raw bend is 0 to 16,383, no bend at 8,192; signed, it is -8,192 to 8,191; as a float, that by 8,192, exactly. */
 
 /* The raw bends of full bend downwards, of no bend, and of full bend upwards. They refuse nothing.
- * Definition: smf.Bend.rawBend. */
+ * Definition: smf.Bend.raw_bend. */
 uint16_t apk_bend_min_raw_value(void);
 uint16_t apk_bend_mid_raw_value(void);
 uint16_t apk_bend_max_raw_value(void);
 
-/* The raw bend of a signed one; beyond the range the nearest end. Refuses nothing. Definition: smf.Bend.rawBend. */
+/* The raw bend of a signed one; beyond the range the nearest end. Refuses nothing. Definition: smf.Bend.raw_bend. */
 uint16_t apk_bend_from_int(int16_t bend);
 
 /* The raw bend of a float: clamped to -1..1, times 8,192, the fraction dropped. NaN gives the lowest, 1.0 the highest.
- * They refuse nothing. Definition: smf.Bend.rawBendOfFloat. */
+ * They refuse nothing. Definition: smf.Bend.raw_bend_of_float. */
 uint16_t apk_bend_from_f32(float bend);
 uint16_t apk_bend_from_f64(double bend);
 
-/* A raw bend as a signed one, and as a float. Refuse 18. Definitions: smf.Bend.askBend, smf.Bend.askFloat. */
+/* A raw bend as a signed one, and as a float. Refuse 18. Definitions: smf.Bend.ask_bend, smf.Bend.ask_float. */
 uint8_t apk_bend_as_int(uint16_t raw, int16_t *bend);
 uint8_t apk_bend_as_f32(uint16_t raw, float *bend);
 uint8_t apk_bend_as_f64(uint16_t raw, double *bend);
