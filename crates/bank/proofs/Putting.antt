@@ -2,11 +2,11 @@
 use mathlib.Core.Path.{◌≡◌, refl, sym, ap, ◌∙◌}
 use mathlib.Core.Bool.{true}
 use mathlib.Core.List.{List, ◌++◌, flatten}
-use Prim.Native.Nat.{ℕ, ◌+◌, ◌-◌, ◌≤◌, ◌<◌}
+use Prim.Native.Nat.{ℕ, ◌+◌, ◌≤◌, ◌<◌}
 use native.Mathlib.Omega.{arith}
 use lib.ListN.{length, get_or}
 use Rattle.smf.specs.Place.{Span, inside, bytes_of}
-use Rattle.smf.specs.Write.{Written, over, part, write, left, put}
+use Rattle.smf.specs.Write.{Written, over, part, write}
 use Rattle.smf.proofs.Write.{over_over, length_over, slice_fits}
 use Rattle.base.specs.declared.Range.{Range}
 use Rattle.write.proofs.Storing.{over_none}

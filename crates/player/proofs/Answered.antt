@@ -1,17 +1,16 @@
 -- What a player answers of a list: the table after it, or a number and the table as it came.
-use mathlib.Core.Path.{◌≡◌, refl, sym, ap, ◌∙◌}
-use mathlib.Core.Bool.{true, false}
+use mathlib.Core.Path.{◌≡◌}
+use mathlib.Core.Bool.{false}
 use mathlib.Core.List.{List}
 use Prim.Native.Nat.{ℕ, ◌≤◌, ◌<◌}
 use native.Mathlib.Omega.{arith}
 use borrow.Author.Tests.{le-leb, lt-leb}
-use lib.ListN.{length, take, get_or}
+use lib.ListN.{length, get_or}
 use Rattle.smf.specs.Place.{Span}
 use Rattle.smf.specs.Event.{Event}
 use Rattle.player.specs.Table.{Table}
-use Rattle.player.specs.Notes.{table_after}
-use Rattle.player.specs.Widths.{event_within, all_within, accepted}
-use Rattle.player.specs.Answers.{Beside, with_number, beside, table_beside}
+use Rattle.player.specs.Widths.{event_within, accepted}
+use Rattle.player.specs.Answers.{with_number, beside, table_beside}
 use Rattle.player.proofs.Steps.{Played, played-refused}
 
 module _ (t : Table) (most : ℕ) (es : List (Event Span)) (count : ℕ) where

@@ -1,5 +1,5 @@
 -- What the exported entries answer, of what the functions that they call answered.
-use mathlib.Core.Path.{◌≡◌, refl, sym, ap, ◌∙◌}
+use mathlib.Core.Path.{◌≡◌, refl, ap}
 use mathlib.Core.Bool.{Bool, true, false, ◌&&◌}
 use mathlib.Core.List.{List, []}
 use Prim.Native.Nat.{ℕ, ◌*◌, ◌≤◌, ◌<◌}
@@ -7,10 +7,10 @@ use native.Mathlib.Omega.{arith}
 use borrow.Author.Tests.{le-leb, lt-leb}
 use lib.ListN.{length, take}
 use lib.Seq.{take_at}
-use Rattle.smf.specs.Answer.{Answer, gives, unless, and_then}
+use Rattle.smf.specs.Answer.{gives, unless, and_then}
 use Rattle.smf.specs.Place.{Span}
 use Rattle.smf.specs.Event.{Event}
-use Rattle.smf.specs.Write.{over, put}
+use Rattle.smf.specs.Write.{over}
 use Rattle.smf.specs.Lists.{Held, holding}
 use Rattle.smf.proofs.Write.{put_fits, put_full}
 use Rattle.rows.specs.Rows.{width}
@@ -23,7 +23,7 @@ use Rattle.player.specs.Notes.{table_after}
 use Rattle.player.specs.Widths.{within, all_within, accepted}
 use Rattle.player.specs.Sounding.{silence_from, silence}
 use Rattle.player.specs.Answers.{Beside, with_number, beside, table_beside, list_beside}
-use Rattle.player.specs.Entries.{table_in, bytes_in, rows_accepted, bytes_beside, CellsLeft, cells_left, silence_left}
+use Rattle.player.specs.Entries.{table_in, bytes_in, rows_accepted, bytes_beside, cells_left, silence_left}
 use Rattle.player.proofs.Silencing.{silence_fits}
 use Rattle.player.proofs.Taking.{RowsTaken}
 

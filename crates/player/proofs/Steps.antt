@@ -7,14 +7,13 @@ use Prim.Native.Nat.{ℕ, ◌+◌, ◌-◌, ◌<◌, ◌≤◌}
 use native.Mathlib.Numerals.{add-one}
 use native.Mathlib.Omega.{arith}
 use borrow.Author.Tests.{eq-eqb, ne_eqb, ltb-true}
-use lib.Dec.{eqb}
 use lib.ListN.{length, get_or, take, drop}
 use lib.Seq.{take-suc, take-add}
 use Rattle.smf.specs.Kind.{note_off, note_on, aftertouch, controller, program_change, channel_aftertouch, pitch_bend, Kind, midi, sys_ex, escape, meta}
 use Rattle.smf.specs.Event.{Event}
 use Rattle.smf.proofs.Answer.{both}
 use Rattle.player.specs.Table.{channels, keys, Table, entry}
-use Rattle.player.specs.Notes.{Note, no_such_note, note, message_note, kind_note, stays, becomes, change_by, last_of, last_note, changed, table_after}
+use Rattle.player.specs.Notes.{Note, no_such_note, note, message_note, kind_note, change_by, last_of, last_note, changed, table_after}
 use Rattle.player.specs.Widths.{within, message_within, kind_within, event_within, all_within}
 use Rattle.player.proofs.Tables.{Shaped, table_ext, table_of_entries, set_entry, shaped_set, entry_set_same, entry_set_key, entry_set_channel, same_or_other}
 use Rattle.player.proofs.Joined.{shaped_after, entry_after, joined}

@@ -1,11 +1,11 @@
 -- A table in bytes: what a loop keeps that fills the table from them, place by place.
-use mathlib.Core.Path.{◌≡◌, sym, ap, ◌∙◌}
+use mathlib.Core.Path.{◌≡◌, sym, ◌∙◌}
 use mathlib.Core.List.{List}
 use Prim.Native.Nat.{ℕ, ◌+◌, ◌/◌, ◌%◌, ◌≤◌, ◌<◌}
 use native.Mathlib.Omega.{arith}
 use borrow.Author.Count.{below_none, below_more}
 use lib.ListN.{get_or}
-use Rattle.player.specs.Table.{keys, Table, entry, places, key_place, velocity_at}
+use Rattle.player.specs.Table.{keys, Table, places, key_place, velocity_at}
 use Rattle.player.specs.Entries.{table_in}
 use Rattle.player.proofs.Tables.{Shaped, shaped_of, entry_of, table_ext, shaped_set}
 use Rattle.player.proofs.Places.{place_channel, place_key, place_within, velocity_at_lem, set_place, velocity_set_same, velocity_set_other}

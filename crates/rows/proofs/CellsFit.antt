@@ -5,7 +5,7 @@ use Prim.Native.Nat.{ℕ, ◌+◌, ◌*◌, ◌≤◌, ◌<◌}
 use native.Mathlib.Omega.{arith}
 use lib.ListN.{length, take, drop}
 use lib.Seq.{take_at}
-use Rattle.smf.specs.Answer.{Answer, gives, refuses}
+use Rattle.smf.specs.Answer.{gives, refuses}
 use Rattle.smf.specs.Write.{over}
 use Rattle.smf.specs.Lists.{ListAt}
 use Rattle.smf.proofs.Write.{put_fits, put_full}

@@ -1,9 +1,9 @@
 -- What the short way finds is what is read: the laws of reading one event, put together for a delta of one byte and a channel status.
-use mathlib.Core.Path.{◌≡◌, refl, sym, ap, ◌∙◌}
-use mathlib.Core.Bool.{true, false}
-use mathlib.Core.List.{List, [], ◌∷◌}
+use mathlib.Core.Path.{◌≡◌, refl, sym, ◌∙◌}
+use mathlib.Core.Bool.{true}
+use mathlib.Core.List.{List}
 use mathlib.Core.Logic.{◌⊎◌, inl, inr, ⊎_elim}
-use Prim.Native.Nat.{ℕ, suc, ◌+◌, ◌-◌, ◌*◌, ◌/◌, ◌%◌, ◌≤◌, ◌<◌}
+use Prim.Native.Nat.{ℕ, ◌+◌, ◌-◌, ◌*◌, ◌/◌, ◌%◌, ◌≤◌, ◌<◌}
 use native.Mathlib.Numerals.{add-one}
 use native.Mathlib.Omega.{arith}
 use lib.Dec.{eqb}
@@ -13,8 +13,7 @@ use borrow.Author.Tests.{lt-ltb, le-leb, lt-leb, eqb-true, eqb-false}
 use Rattle.smf.specs.Answer.{Rules, gives}
 use Rattle.smf.specs.Running.{is_running}
 use Rattle.smf.specs.Number.{encode_number, numeral, read_number, number_from}
-use Rattle.smf.specs.Place.{number_at}
-use Rattle.smf.specs.Wire.{Delta, data_length, read_channel, read_body}
+use Rattle.smf.specs.Wire.{Delta, data_length, read_body}
 use Rattle.smf.specs.Kind.{message_one, message_two}
 use Rattle.smf.specs.Event.{placed, name_raw, event_at}
 use Rattle.smf.specs.Lists.{Reader, full, takes, stops, step_on, next_at}

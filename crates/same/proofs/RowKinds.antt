@@ -17,7 +17,7 @@ use Rattle.smf.specs.Place.{Span, bytes_of}
 use Rattle.smf.specs.Signed.{signed_byte}
 use Rattle.smf.specs.Smpte.{time}
 use Rattle.smf.specs.Kind as kind
-use Rattle.smf.specs.Event.{map_meta, map_kind, load_or, meta_carries, carries, kind_load, no_span}
+use Rattle.smf.specs.Event.{map_meta, map_kind, meta_carries, carries, kind_load, no_span}
 use Rattle.smf.proofs.Signed.{signed_back}
 use Rattle.midi.specs.declared.MidiMessage.TheVariants as midi
 use Rattle.meta.specs.declared.OptionU16.TheVariants as option

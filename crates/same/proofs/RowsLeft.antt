@@ -1,12 +1,12 @@
 -- What the loop that compares rows keeps: what holds of all rows holds of those that are left, and the other way round.
 use mathlib.Core.Path.{◌≡◌, refl, sym, ap, ap₂, ◌∙◌}
 use mathlib.Core.Bool.{true}
-use mathlib.Core.List.{List, [], ◌∷◌, map}
+use mathlib.Core.List.{List, ◌∷◌, map}
 use Prim.Native.Nat.{ℕ, ◌+◌, ◌-◌, ◌*◌, ◌<◌, ◌≤◌}
 use native.Mathlib.Omega.{arith}
-use lib.ListN.{length, take, drop}
+use lib.ListN.{take, drop}
 use lib.Seq.{take_all}
-use Rattle.smf.specs.Place.{Span, bytes_of}
+use Rattle.smf.specs.Place.{bytes_of}
 use Rattle.smf.specs.Event.{Event, map_event}
 use Rattle.smf.specs.Lists.{Counted, SameList}
 use Rattle.smf.proofs.Answer.{both}

@@ -6,9 +6,9 @@ use native.Mathlib.Omega.{arith}
 use native.Mathlib.Numerals.{add-one}
 use lib.ListN.{length, take, get_or, length-map, get_or-map}
 use lib.Seq.{take_all}
-use Rattle.smf.specs.Place.{Span, bytes_of}
+use Rattle.smf.specs.Place.{bytes_of}
 use Rattle.smf.specs.Event.{Event, map_event, Same}
-use Rattle.smf.specs.Lists.{listed, Counted, counted, SameList}
+use Rattle.smf.specs.Lists.{listed, Counted, SameList}
 use Rattle.track.specs.List.{record_of}
 use Rattle.track.specs.declared.list.Record.{Record}
 use Rattle.track.proofs.Held.{past}

@@ -1,5 +1,5 @@
 -- No two answers of the list reader, and of its step, say the same.
-use mathlib.Core.Path.{◌≡◌, refl, sym, ap, ◌∙◌}
+use mathlib.Core.Path.{◌≡◌, refl, ap}
 use mathlib.Core.List.{List, [], ◌∷◌, map}
 use Rattle.smf.specs.Lists as smf
 use Rattle.smf.proofs.Answer.{injective}

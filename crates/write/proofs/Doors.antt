@@ -1,5 +1,5 @@
 -- What a door answers: an event that it let through is sound, and what it refuses has a number of the document.
-use mathlib.Core.Path.{◌≡◌, refl, sym, ap, ◌∙◌}
+use mathlib.Core.Path.{◌≡◌, ap}
 use mathlib.Core.Bool.{Bool, true, false, ◌&&◌, not}
 use mathlib.Core.List.{List}
 use Prim.Native.Nat.{ℕ, ◌^◌, ◌<◌, ◌≤◌}
@@ -10,8 +10,7 @@ use Rattle.smf.specs.Answer.{pick, Answer, gives, refuses, unless, and_then, Rul
 use Rattle.smf.specs.Place.{Span, inside, bytes_of}
 use Rattle.smf.specs.Wire as wire
 use Rattle.smf.specs.Wire.{raw_event}
-use Rattle.smf.specs.Kind.{raw_of}
-use Rattle.smf.specs.Event.{Event, kind_fits, carries, kind_load, kind_misnamed, no_span, span_length, map_event, legal}
+use Rattle.smf.specs.Event.{Event, kind_fits, kind_load, kind_misnamed, no_span, span_length, map_event, legal}
 use Rattle.smf.proofs.Answer.{by-test, by_answer, both}
 use Rattle.rows.specs.RowEvent.{event_of_row, row_judged}
 use Rattle.rows.proofs.IsRow.{is_none}

@@ -1,10 +1,10 @@
 -- What an event's size says of it: that it was judged legal, and how long its bytes are.
-use mathlib.Core.Path.{◌≡◌, refl, sym, ap, ◌∙◌}
+use mathlib.Core.Path.{◌≡◌, refl, ap}
 use mathlib.Core.List.{List}
 use Prim.Native.Nat.{ℕ}
 use native.Mathlib.Omega.{arith}
 use lib.ListN.{length}
-use Rattle.smf.specs.Answer.{Answer, gives, refuses, and_then}
+use Rattle.smf.specs.Answer.{Answer, gives, refuses}
 use Rattle.smf.specs.Event.{Event, encode_event, event_after}
 use Rattle.write.specs.Raw.{raw_judged}
 use Rattle.write.specs.Size.{Size, size, size_judged}

@@ -1,12 +1,12 @@
 -- Records and rows as they are judged, one by one: what a loop takes at an index is what the list has there.
-use mathlib.Core.Path.{◌≡◌, refl, sym, ap, ◌∙◌}
+use mathlib.Core.Path.{◌≡◌, refl, ap, ◌∙◌}
 use mathlib.Core.Bool.{true}
 use mathlib.Core.List.{List, map}
 use Prim.Native.Nat.{ℕ, zero, suc, ◌+◌, ◌*◌, ◌≤◌, ◌<◌}
 use native.Mathlib.Omega.{arith}
 use lib.ListN.{length, take, drop, get_or, length-map, get_or-map}
 use lib.Seq.{drop-drop, get_or-take, length-take-le}
-use Rattle.smf.specs.Answer.{Answer, gives, refuses, and_then, Rules}
+use Rattle.smf.specs.Answer.{Answer, gives, refuses, Rules}
 use Rattle.smf.specs.Place.{Span}
 use Rattle.smf.specs.Event.{Event, legal}
 use Rattle.smf.specs.Lists.{records_judged}

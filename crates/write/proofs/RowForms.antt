@@ -1,13 +1,13 @@
 -- What stands behind the delta of a row, by the row's own numbers alone.
-use mathlib.Core.Path.{◌≡◌, refl, sym, ap, ◌∙◌}
-use mathlib.Core.Bool.{Bool, true, false, true≢false, ◌&&◌, ◌||◌}
-use mathlib.Core.List.{List, [], ◌∷◌}
+use mathlib.Core.Path.{◌≡◌, refl, sym, ◌∙◌}
+use mathlib.Core.Bool.{Bool, true, false, true≢false, ◌&&◌}
+use mathlib.Core.List.{List}
 use Prim.Native.Nat.{ℕ, ◌+◌, ◌*◌, ◌-◌, ◌/◌, ◌%◌, ◌^◌, ◌≤◌, ◌<◌}
 use native.Mathlib.Omega.{arith}
-use lib.Dec.{ltb, leb, eqb}
+use lib.Dec.{ltb}
 use lib.ListN.{length}
 use lib.Signed.{mag}
-use borrow.Author.Tests.{lt-ltb, le-ltb, ltb-true, le-leb, lt-leb, ne_eqb, eqb-true}
+use borrow.Author.Tests.{lt-ltb, le-ltb, ltb-true, le-leb, lt-leb, ne_eqb}
 use Rattle.smf.specs.Answer.{pick, Answer, gives, refuses, and_then, Rules}
 use Rattle.smf.specs.Place.{Span}
 use Rattle.smf.specs.Signed.{signed_byte}
@@ -17,7 +17,7 @@ use Rattle.smf.specs.Wire.{raw_event}
 use Rattle.smf.specs.Kind as kind
 use Rattle.smf.specs.Kind.{is_text}
 use Rattle.smf.specs.Event.{message_fits, legal}
-use Rattle.smf.proofs.Answer.{by-test, by-lt, both, pick_test, given}
+use Rattle.smf.proofs.Answer.{by-test, by-lt, both, given}
 use Rattle.smf.proofs.Signed.{signed_low, signed_high}
 use Rattle.rows.specs.Rows.{width}
 use Rattle.rows.specs.RowEvent.{are_bytes, fields_fit, cell, is_row, row_message, row_meta, row_kind, row_span, called_row, event_of_row, row_judged}

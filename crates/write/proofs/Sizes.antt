@@ -10,7 +10,7 @@ use Rattle.smf.specs.Answer.{Answer, gives}
 use Rattle.smf.specs.Running.{is_running}
 use Rattle.smf.specs.Write.{over}
 use Rattle.smf.specs.Event.{Event}
-use Rattle.smf.specs.Lists.{Checked, all_legal, illegal, check, encode_list, list_after, ListAnswer, wrote, refuses_at, ListSize, unsized, size_checked, size_list, ListWritten, list_left, write_checked, write_list}
+use Rattle.smf.specs.Lists.{Checked, all_legal, illegal, check, encode_list, list_after, ListAnswer, wrote, refuses_at, ListSize, unsized, size_checked, size_list, list_left, write_list}
 use Rattle.smf.proofs.Answer.{pick_test}
 use Rattle.smf.proofs.ListLegality.{check_legal}
 use Rattle.smf.proofs.ListWrites.{write_invalid, write_many, write_illegal, write_full, write-fits}

@@ -1,14 +1,14 @@
 -- What writing an event leaves, by its raw form and by the room.
-use mathlib.Core.Path.{◌≡◌, refl, sym, ap, ◌∙◌}
+use mathlib.Core.Path.{◌≡◌, refl, ap}
 use mathlib.Core.Bool.{true}
 use mathlib.Core.List.{List}
 use Prim.Native.Nat.{ℕ, ◌+◌, ◌≤◌, ◌<◌}
 use lib.ListN.{length}
-use Rattle.smf.specs.Answer.{Answer, gives, refuses, and_then}
+use Rattle.smf.specs.Answer.{Answer, gives, refuses}
 use Rattle.smf.specs.Running.{is_running}
-use Rattle.smf.specs.Wire.{RawEvent, raw_event, encode_raw_event, running_after}
+use Rattle.smf.specs.Wire.{RawEvent, encode_raw_event, running_after}
 use Rattle.smf.specs.Write.{over, left}
-use Rattle.smf.specs.Event.{Event, encode_event, EventWritten, event_written, write_judged, write_event}
+use Rattle.smf.specs.Event.{Event, encode_event, event_written, write_judged, write_event}
 use Rattle.smf.proofs.Write.{put_full, put_fits}
 use Rattle.write.specs.Raw.{raw_judged}
 use Rattle.write.specs.Wrote.{write_raw}

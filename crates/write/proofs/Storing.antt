@@ -1,12 +1,12 @@
 -- Stores one behind the other are one write of what they store.
-use mathlib.Core.Path.{◌≡◌, refl, sym, ap, ◌∙◌}
+use mathlib.Core.Path.{◌≡◌, sym, ap, ◌∙◌}
 use mathlib.Core.List.{List, [], ◌∷◌, ◌++◌}
-use Prim.Native.Nat.{ℕ, suc, ◌+◌, ◌/◌, ◌%◌, ◌^◌, ◌≤◌, ◌<◌}
+use Prim.Native.Nat.{ℕ, ◌+◌, ◌/◌, ◌≤◌, ◌<◌}
 use native.Mathlib.Nat.{add-zero, mod-eq_of_lt}
 use native.Mathlib.Numerals.{add-one}
 use native.Mathlib.Omega.{arith}
 use lib.Dec.{eqb}
-use lib.ListN.{length, take, drop, set, length-append, take-append-drop, length-set}
+use lib.ListN.{length, take, drop, set, length-append, take-append-drop}
 use lib.Seq.{set_split, take-set-le, drop-set-lt}
 use Rattle.smf.specs.Answer.{Answer, gives}
 use Rattle.smf.specs.Place.{Span, bytes_of}

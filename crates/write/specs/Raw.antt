@@ -18,7 +18,6 @@ use Rattle.write.specs.declared.raw.Made.TheVariants as made
 use Rattle.write.specs.declared.make.Looked.{Looked}
 use Rattle.write.specs.declared.make.Looked.TheVariants as looked
 use Rattle.write.specs.declared.row_door.Data.{Data}
-use Rattle.write.specs.declared.raw.RawEvent.{RawEvent}
 use Rattle.write.specs.declared.raw.Judged.{Judged}
 use Rattle.write.specs.declared.raw.Judged.TheVariants as judged
 

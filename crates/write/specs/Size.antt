@@ -1,8 +1,7 @@
 -- How long an event's bytes are, and the running status that they leave.
 use Rattle.std.specs.Prelude.{List, ℕ, length}
-use Rattle.smf.specs.Answer.{pick, Answer, gives, refuses, and_then, Rules}
+use Rattle.smf.specs.Answer.{pick, Answer, gives, refuses, and_then}
 use Rattle.smf.specs.Running.{is_running}
-use Rattle.smf.specs.Place.{Span}
 use Rattle.smf.specs.Wire.{RawEvent, encode_raw_event, running_after}
 use Rattle.smf.specs.Event.{Event}
 use Rattle.base.specs.Refusal.{number_of}

@@ -1,5 +1,4 @@
 -- `agree` meets its contract. The loop's invariant: as many bytes as were passed agree.
-use Prim.Native.Nat.{◌-◌}
 use native.Mathlib.Omega.{arith}
 use Rattle.same.proofs.Loads.{begun, turn, ended, differ}
 use Rattle.same.proofs.agree.Goals as goal

@@ -1,7 +1,6 @@
 -- `ranges_in` meets its contract: each range is the one in its cells.
 use mathlib.Core.Path.{◌≡◌, refl}
 use native.Mathlib.Omega.{arith}
-use Prim.Native.Nat.{◌-◌}
 use Rattle.bank.specs.Bank.{most_tracks}
 use Rattle.bank.specs.Entries.{range_in}
 use Rattle.bank.proofs.Filling.{filled_none, filled_more, filled-all}

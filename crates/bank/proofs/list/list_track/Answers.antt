@@ -1,7 +1,6 @@
 -- `list_track` meets its contract: the track that is there is listed by its own bytes.
 use mathlib.Core.Path.{sym, ap, ◌∙◌}
 use native.Mathlib.Omega.{arith}
-use borrow.Author.Rules.{rules}
 use Rattle.smf.specs.Answer.{gives}
 use Rattle.smf.specs.Lists.{ListHeld}
 use Rattle.base.specs.Rules.{rules_of}

@@ -1,7 +1,6 @@
 -- `read_tracks` meets its contract. The invariant: the tracks so far have no gap, and whether there is one rests on the others.
 use mathlib.Core.Path.{refl, sym, ◌∙◌}
 use native.Mathlib.Omega.{arith}
-use Prim.Native.Nat.{◌-◌}
 use Rattle.bank.specs.Bank.{most_tracks}
 use Rattle.bank.proofs.Gaps.{walked_first, walked-length, walked-apart, walked_more, walked-short, walked_all}
 use Rattle.bank.proofs.read.read_tracks.Goals as goal

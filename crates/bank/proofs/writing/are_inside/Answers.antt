@@ -2,7 +2,6 @@
 use mathlib.Core.Path.{◌≡◌, sym, ◌∙◌}
 use native.Mathlib.Omega.{arith}
 use borrow.Author.Rules.{rules}
-use Prim.Native.Nat.{◌-◌}
 use lib.ListN.{length}
 use Rattle.bank.specs.Bank.{most_tracks}
 use Rattle.bank.proofs.Rest.{looked_first, looked-out, looked_more, looked-all}

@@ -33,6 +33,7 @@ headed : (bytes : List ℕ) (ranges : List Range) (count size : ℕ) → count �
 headed bytes ranges count size long e =
     omega (arith, e, length-map (take count (spans_of ranges)) (bytes_of bytes), counted-length bytes ranges count long)
 
+-- past the tests of the ranges: they are inside the bytes, and their bank has so many bytes
 pub returns-then-out-size : goal.returns-then-out-size
 returns-then-out-size c =
     let a = c.args in

@@ -5,6 +5,7 @@ use Rattle.smf.specs.Answer.{gives}
 use Rattle.smf.specs.Bend.{bend_of}
 use Rattle.smf.proofs.Bend.{ask_in, ask_out, bend_mag}
 use Rattle.midi.proofs.PitchBend.as_int.Goals as goal
+use Rattle.midi.proofs.PitchBend.as_int.Goals.{Then-raw-le16383}
 
 -- the raw bend as an `i16`, less 8,192
 less : (raw : ℕ) → raw < 2 ^ 14 → to_z w16 raw -ℤ pos 8192 ≡ bend_of raw
@@ -16,8 +17,13 @@ made raw h =
     let fits : SFits w16 (bend_of raw) = record { sfits = omega (arith, bend_mag raw h) } in
     rw (less raw h) (to_z-of_z {w = w16} fits)
 
+in-width : (c : Then-raw-le16383) → c.args.self.0.0 < 2 ^ 14
+in-width c = omega arith
+
 pub returns-then-raw-le16383 : goal.returns-then-raw-le16383
-returns-then-raw-le16383 c = rw c.as_int-raw.ensures (ap gives (made c.args.self.0.0 (omega arith)) ∙ ask_in c.args.self.0.0 (omega arith))
+returns-then-raw-le16383 c =
+    let width = in-width (goal.at.returns-then-raw-le16383 c).Then-raw-le16383 in
+    rw c.as_int-raw.ensures (ap gives (made c.args.self.0.0 width) ∙ ask_in c.args.self.0.0 width)
 
 pub returns-else-raw-le16383 : goal.returns-else-raw-le16383
 returns-else-raw-le16383 c = ask_out c.args.self.0.0 (omega arith)

@@ -1,5 +1,4 @@
 -- `bytes_in` meets its contract: the bytes before the place are the entries there.
-use Prim.Native.Nat.{◌-◌}
 use mathlib.Core.Path.{refl}
 use Rattle.player.specs.Entries.{bytes_in}
 use Rattle.player.proofs.Stored.{stored_more, stored-all}

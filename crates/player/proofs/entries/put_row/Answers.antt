@@ -1,5 +1,4 @@
 -- `put_row` meets its contract. The invariant: the first i cells of the row stand at the place.
-use Prim.Native.Nat.{◌-◌}
 use mathlib.Core.Path.{◌≡◌}
 use native.Mathlib.Omega.{arith}
 use borrow.Author.Rules.{rules}

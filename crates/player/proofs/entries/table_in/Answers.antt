@@ -1,5 +1,4 @@
 -- `table_in` meets its contract: the entries before the place are the bytes there.
-use Prim.Native.Nat.{◌-◌}
 use mathlib.Core.Path.{subst, sym}
 use Rattle.player.specs.Table.{fresh}
 use Rattle.player.proofs.Tables.{Shaped, shaped_of}

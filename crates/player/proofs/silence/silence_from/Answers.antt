@@ -1,6 +1,5 @@
 -- `silence_from` meets its contract: the list has the events so far, and the rest is what the places ahead give.
 use mathlib.Core.Path.{sym, ◌∙◌}
-use Prim.Native.Nat.{◌-◌}
 use Rattle.player.proofs.Counting.{is_silent, is_sounding}
 use Rattle.player.proofs.Scanning.{scanned_first, scanned-full, scanned-all, scanned-silent, scanned-sounding}
 use Rattle.player.proofs.silence.silence_from.Goals as goal

@@ -1,5 +1,4 @@
 -- `counts` meets its contract: the counts of the channels passed are there.
-use Prim.Native.Nat.{◌-◌}
 use mathlib.Core.Path.{◌∙◌}
 use Rattle.player.proofs.Arrays.{shaped_array}
 use Rattle.player.proofs.Counting.{counts_stored}

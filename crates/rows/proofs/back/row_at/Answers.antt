@@ -1,5 +1,4 @@
 -- `row_at` meets its contract. The invariant: the cells so far are copied.
-use Prim.Native.Nat.{◌-◌}
 use Rattle.rows.proofs.Copying.{copied_first, copied_more, copied_all}
 use Rattle.rows.proofs.back.row_at.Goals as goal
 

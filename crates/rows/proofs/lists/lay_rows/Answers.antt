@@ -1,8 +1,6 @@
 -- The loop that reads a list into cells meets its contract: an invalid running status, its turns and its stops.
 use mathlib.Core.Path.{sym, ap, ◌∙◌}
-use Prim.Native.Nat.{◌-◌}
 use native.Mathlib.Omega.{arith}
-use borrow.Author.Rules.{rules}
 use Rattle.smf.specs.Lists.{next_at}
 use Rattle.base.specs.Rules.{rules_of}
 use Rattle.track.specs.Cursor.{reader_of}

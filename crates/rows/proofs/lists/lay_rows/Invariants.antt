@@ -1,6 +1,5 @@
 use Prim.Native.Nat.{◌-◌}
 use lib.ListN.{length}
-use borrow.Author.Rules.{rules}
 use Rattle.base.specs.Rules.{rules_of}
 use Rattle.track.specs.Cursor.{reader_of}
 use Rattle.track.specs.List.{capacity}

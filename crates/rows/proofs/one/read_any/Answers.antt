@@ -1,6 +1,5 @@
 -- `read_any` meets its contract: what the reader of events answers, and its event's row.
 use mathlib.Core.Path.{◌≡◌, sym, ap, ◌∙◌}
-use borrow.Author.Rules.{rules}
 use Rattle.smf.specs.Event.{ReadAt, event_at}
 use Rattle.base.specs.Rules.{rules_of}
 use Rattle.event.specs.Event.{event_read}

@@ -1,6 +1,5 @@
 -- `read_row` meets its contract: a short event's row, or what the general way answers.
 use mathlib.Core.Path.{sym, ap, ◌∙◌}
-use borrow.Author.Rules.{rules}
 use Rattle.smf.specs.Event.{ReadAt}
 use Rattle.base.specs.Rules.{rules_of}
 use Rattle.rows.specs.One.{read_row, beside_row}

@@ -1,5 +1,4 @@
 -- `cells_at` meets its contract. The invariant: the cells so far are copied.
-use Prim.Native.Nat.{◌-◌}
 use Rattle.rows.proofs.Copying.{copied_first, copied_more, copied_all}
 use Rattle.write.proofs.direct.cells_at.Goals as goal
 

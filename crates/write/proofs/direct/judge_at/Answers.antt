@@ -1,6 +1,5 @@
 -- `judge_at` meets its contract: a row that is not all there is no event's.
 use mathlib.Core.Path.{sym, ◌∙◌}
-use borrow.Author.Rules.{rules}
 use borrow.Author.Tests.{leb-true, leb-false}
 use Rattle.base.specs.Rules.{rules_of}
 use Rattle.write.proofs.Judging.{row_short}

@@ -2,7 +2,6 @@
 use mathlib.Core.Path.{refl, sym, ap, ◌∙◌}
 use native.Mathlib.Omega.{arith}
 use lib.ListN.{get_or}
-use borrow.Author.Rules.{rules}
 use Rattle.smf.specs.Answer.{gives}
 use Rattle.smf.specs.Wire.{raw_event}
 use Rattle.smf.proofs.Number.{encode_most}

@@ -1,6 +1,5 @@
 -- `write_at` meets its contract: a legal channel message's cells are within their widths, and every other row goes through its door.
 use native.Mathlib.Omega.{arith}
-use borrow.Author.Rules.{rules}
 use Rattle.base.specs.Rules.{rules_of}
 use Rattle.write.proofs.Doors.{row_number, told}
 use Rattle.write.proofs.Straight.{direct-judged, judged-there, judged-direct, judged-message}

@@ -1,5 +1,4 @@
 -- `event_raw` meets its contract: the delta, and what stands behind it.
-use borrow.Author.Rules.{rules}
 use Rattle.base.specs.Rules.{rules_of}
 use Rattle.event.specs.Event.{kind_of}
 use Rattle.write.proofs.Forms.{behind_delta}

@@ -1,5 +1,4 @@
 -- `message` meets its contract, message by message.
-use borrow.Author.Rules.{rules}
 use Rattle.smf.specs.Kind.{raw_message}
 use Rattle.smf.specs.Event.{message_fits}
 use Rattle.write.proofs.Forms.{midi_made}

@@ -1,5 +1,4 @@
 -- `number` meets its contract: a track number that is there, and one that is not.
-use borrow.Author.Rules.{rules}
 use Rattle.write.proofs.Forms.{number_made, none_made}
 use Rattle.write.proofs.event_door.number.Goals as goal
 

@@ -1,5 +1,4 @@
 -- `time` meets its contract, by what `encode` answers.
-use borrow.Author.Rules.{rules}
 use Rattle.base.specs.Rules.{rules_of}
 use Rattle.header.specs.Smpte.{smpte_time_of}
 use Rattle.write.specs.Raw.{is_sound, wire_of}

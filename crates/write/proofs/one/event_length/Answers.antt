@@ -1,5 +1,4 @@
 -- `event_length` meets its contract: the running status first.
-use borrow.Author.Rules.{rules}
 use Rattle.smf.specs.Event.{legal}
 use Rattle.base.specs.Rules.{rules_of}
 use Rattle.event.specs.Event.{event_of}

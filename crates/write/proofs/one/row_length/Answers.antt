@@ -1,5 +1,4 @@
 -- `row_length` meets its contract: the running status first.
-use borrow.Author.Rules.{rules}
 use Rattle.base.specs.Rules.{rules_of}
 use Rattle.rows.specs.RowEvent.{row_judged}
 use Rattle.write.specs.Size.{size_judged, size_event}

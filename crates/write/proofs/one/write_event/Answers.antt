@@ -1,6 +1,5 @@
 -- `write_event` meets its contract: the running status first.
 use mathlib.Core.Path.{sym, ◌∙◌}
-use borrow.Author.Rules.{rules}
 use Rattle.smf.specs.Event.{legal, write_event}
 use Rattle.base.specs.Rules.{rules_of}
 use Rattle.event.specs.Event.{event_of}

@@ -1,7 +1,6 @@
 -- A list's size: the running status and the count first, then the records.
 use mathlib.Core.Path.{sym, ◌∙◌}
 use mathlib.Core.List.{map}
-use borrow.Author.Rules.{rules}
 use Rattle.smf.specs.Lists.{records_judged}
 use Rattle.base.specs.Rules.{rules_of}
 use Rattle.track.specs.List.{capacity, record_of}

@@ -1,6 +1,5 @@
 -- The loop that writes a list: each event was measured, so that none is refused.
 use mathlib.Core.Path.{◌≡◌}
-use Prim.Native.Nat.{◌-◌}
 use native.Mathlib.Omega.{arith}
 use lib.ListN.{length}
 use borrow.Author.Rules.{rules}

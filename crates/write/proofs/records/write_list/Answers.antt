@@ -1,7 +1,6 @@
 -- A list is written where it has a size and there is room for it.
 use mathlib.Core.Path.{◌≡◌, sym, ap, ◌∙◌}
 use mathlib.Core.List.{map}
-use borrow.Author.Rules.{rules}
 use Rattle.smf.specs.Lists.{records_judged, wrote, ListSize}
 use Rattle.base.specs.Refusal.{number_of}
 use Rattle.base.specs.Rules.{rules_of}

@@ -1,5 +1,4 @@
 -- `message` meets its contract, by the row's data bytes.
-use borrow.Author.Rules.{rules}
 use Rattle.write.proofs.RowForms.{no_kind, message_row}
 use Rattle.write.proofs.row_door.message.Goals as goal
 

@@ -1,8 +1,6 @@
 -- `number` meets its contract: a number that is there, and one that is not.
 use mathlib.Core.Path.{sym, ◌∙◌}
-use mathlib.Core.Bool.{true, false}
 use lib.Dec.{ltb}
-use borrow.Author.Rules.{rules}
 use borrow.Author.Tests.{ne_eqb}
 use Rattle.smf.specs.Answer.{refuses}
 use Rattle.rows.specs.RowEvent.{row_number_of}

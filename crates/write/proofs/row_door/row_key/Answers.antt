@@ -1,5 +1,4 @@
 -- `row_key` meets its contract: a byte stands for its signed number.
-use borrow.Author.Rules.{rules}
 use borrow.Author.Tests.{lt-ltb, le-ltb}
 use Rattle.smf.specs.Signed.{signed_byte}
 use Rattle.smf.proofs.Signed.{byte_back}

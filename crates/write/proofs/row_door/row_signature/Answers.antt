@@ -1,7 +1,6 @@
 -- `row_signature` meets its contract, where its numbers are bytes.
 use mathlib.Core.Path.{sym, ◌∙◌}
 use native.Mathlib.Omega.{arith}
-use borrow.Author.Rules.{rules}
 use Rattle.write.proofs.Forms.{signature_fits}
 use Rattle.write.proofs.RowForms.{bytes_below}
 use Rattle.write.proofs.row_door.row_signature.Goals as goal

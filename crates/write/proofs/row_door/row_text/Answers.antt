@@ -1,6 +1,5 @@
 -- `row_text` meets its contract, by the number.
 use Prim.Native.Nat.{◌-◌}
-use borrow.Author.Rules.{rules}
 use Rattle.meta.specs.Meta.{span_of}
 use Rattle.write.proofs.RowForms.{text_low, text_high, text_is}
 use Rattle.write.proofs.Forms.{text_made}

@@ -1,13 +1,11 @@
 -- `row_time` meets its contract: five bytes, and a rate.
 use mathlib.Core.Path.{sym, ap, ◌∙◌}
-use mathlib.Core.Bool.{true, false}
 use Prim.Native.Nat.{ℕ}
 use native.Mathlib.Omega.{arith}
-use borrow.Author.Rules.{rules}
 use Rattle.smf.specs.Smpte.{time}
 use Rattle.smf.specs.Kind.{meta, smpte_offset}
 use Rattle.base.specs.Rules.{rules_of}
-use Rattle.rows.specs.RowEvent.{are_bytes, time_fits}
+use Rattle.rows.specs.RowEvent.{time_fits}
 use Rattle.write.specs.Raw.{raw_kind}
 use Rattle.write.proofs.RowForms.{and_false, bytes_below, rate_wide, rate_refused, rate_given}
 use Rattle.write.proofs.row_door.row_time.Goals as goal

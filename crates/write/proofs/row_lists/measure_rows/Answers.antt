@@ -1,11 +1,10 @@
 -- The loop that measures a list.
 use mathlib.Core.Path.{◌≡◌}
-use Prim.Native.Nat.{◌-◌, ◌<◌}
+use Prim.Native.Nat.{◌<◌}
 use Prim.Native.Nat.{◌*◌}
 use native.Mathlib.Omega.{arith}
 use lib.ListN.{length, get_or}
 use lib.ListN.{take, drop}
-use borrow.Author.Rules.{rules}
 use Rattle.smf.specs.Answer.{refuses}
 use Rattle.base.specs.Rules.{rules_of}
 use Rattle.rows.specs.RowEvent.{row_judged}

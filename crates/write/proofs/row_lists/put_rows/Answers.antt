@@ -1,7 +1,5 @@
 -- The loop that writes a list: each event was measured, so that none is refused.
-use Prim.Native.Nat.{◌-◌}
 use native.Mathlib.Omega.{arith}
-use borrow.Author.Rules.{rules}
 use Rattle.smf.specs.Answer.{refuses}
 use Rattle.base.specs.Rules.{rules_of}
 use Rattle.write.proofs.Judging.{rowsCounted, rows-counted, row-counted}

@@ -1,5 +1,4 @@
 use Prim.Native.Nat.{◌-◌, ◌≤◌}
-use borrow.Author.Rules.{rules}
 use Rattle.base.specs.Rules.{rules_of}
 use Rattle.write.proofs.Judging.{rowsCounted}
 use Rattle.write.proofs.Writing.{Going}

@@ -1,6 +1,5 @@
 -- A list's size: the running status and the count first, then the rows.
 use mathlib.Core.Path.{sym, ◌∙◌}
-use borrow.Author.Rules.{rules}
 use Rattle.base.specs.Rules.{rules_of}
 use Rattle.rows.specs.RowLists.{rows_judged}
 use Rattle.track.specs.List.{capacity}

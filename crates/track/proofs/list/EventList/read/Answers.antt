@@ -1,8 +1,7 @@
 -- The list reader meets its contract: an invalid running status, and its loop's turns and stops.
 use mathlib.Core.Path.{sym, ap, ◌∙◌}
-use Prim.Native.Nat.{◌-◌, ◌<◌}
+use Prim.Native.Nat.{◌<◌}
 use native.Mathlib.Omega.{arith}
-use borrow.Author.Rules.{rules}
 use Rattle.smf.proofs.Steps.{Took}
 use Rattle.base.specs.Rules.{rules_of}
 use Rattle.event.specs.Event.{event_of}
