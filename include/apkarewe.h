@@ -1,9 +1,10 @@
 /* Apkarewe: reading and writing the events of MIDI tracks, which of their notes still sound, and banks of tracks, for C
  * and C++.
  *
- * To build. `tools/native apkarewe.o` proves the entries and writes them as one object file for x86-64; link it with
- * your program, gcc -Iinclude program.c apkarewe.o. Only 64-bit little-endian machines: the proofs take size_t to be 64
- * bits wide. example/track.c is a program that reads a track, prints it and writes it back.
+ * To build. `tools/native apkarewe.o` proves the entries and writes them as one object file for x86-64, of level v2: some
+ * instructions are of SSE4. Link it with your program, gcc -Iinclude program.c apkarewe.o. The proofs take size_t to be
+ * 64 bits wide, and the machine to be little-endian. example/track.c is a program that reads a track, prints it and
+ * writes it back.
  *
  * What it needs. No heap, no files, nothing of libc but memcpy, memmove and memset. Nothing is kept between calls, so
  * that calls from several threads do not meet. The stack, read off the machine code for x86-64 by tools/stack: 19.7 KB
