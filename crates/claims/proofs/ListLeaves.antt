@@ -11,7 +11,7 @@ use Rattle.smf.specs.Answer.{Answer, refuses, Rules}
 use Rattle.smf.specs.Running.{is_running}
 use Rattle.smf.specs.Place.{Span}
 use Rattle.smf.specs.Event.{Event}
-use Rattle.smf.specs.Lists.{records_judged, Checked, all_legal, illegal, check, encode_list, ListSize, size_checked, size_list, ListWritten, list_put, write_checked, write_list}
+use Rattle.smf.specs.Lists.{records_judged, Checked, all_legal, illegal, check, encode_list, ListSize, size_checked, size_list, ListWritten, list_put_of, write_checked, write_list}
 use Rattle.smf.proofs.Answer.{pick_both, said_refused}
 use Rattle.smf.proofs.ListLegality as checks
 use Rattle.smf.proofs.ListLegality.{check_illegal}
@@ -106,7 +106,7 @@ module _ (judged : List (Answer (Event (List ℕ)))) (numbered : AllBy judged) (
       Good w = ListLeaves judged count running out w w.answer
 
       checked : (c : Checked) → check 0 (take count judged) ≡ c → Good (write_checked running out c)
-      unfolding write_checked list_put
+      unfolding write_checked list_put_of
       checked (illegal n i) e = (illegal_at of_list_writing refl n i e, refl, refl)
       checked (all_legal es) e = pick_both Good (leb (length (encode_list running es)) (length out)) tt (none_at of_list_writing 20 refl refl, refl, refl)
 

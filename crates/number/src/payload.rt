@@ -65,7 +65,7 @@ pub fn read_varlen_slice(raw: &[u8], at: usize, rules: Rules) -> ReadSlice
     }
 }
 
-// Copies a part of some bytes to a place of a buffer that has room for it: the language has no copy of its own.
+// Copies a part of some bytes to a place of a buffer that has room for it, byte by byte.
 fn copy_part(bytes: &[u8], start: usize, n: usize, out: &mut [u8], at: usize)
     requires { (start + n ≤ length bytes.now) × (at + n ≤ length out.old) }
     ensures { out.new ≡ over (take n (drop start bytes.now)) out.old at }

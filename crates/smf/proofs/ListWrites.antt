@@ -12,7 +12,7 @@ use Rattle.smf.specs.Answer.{Answer, gives}
 use Rattle.smf.specs.Running.{is_running}
 use Rattle.smf.specs.Write.{over}
 use Rattle.smf.specs.Event.{Event, encode_event, event_after}
-use Rattle.smf.specs.Lists.{Checked, all_legal, illegal, check, encode_list, list_after, ListAnswer, wrote, refuses_at, ListWritten, list_left, list_put, write_checked, write_list}
+use Rattle.smf.specs.Lists.{Checked, all_legal, illegal, check, encode_list, list_after, ListAnswer, wrote, refuses_at, ListWritten, list_left, list_put_of, write_checked, write_list}
 use Rattle.smf.proofs.Answer.{pick_test}
 use Rattle.smf.proofs.ListLegality.{check_legal, check_given}
 
@@ -36,7 +36,7 @@ module _ (most running : ℕ) (judged : List (Answer (Event (List ℕ)))) (count
   Good w = Says w w.answer
 
   checked_says : is_running running ≡ true → count ≤ most → (c : Checked) → check 0 (take count judged) ≡ c → Good (write_checked running buffer c)
-  unfolding write_checked list_put
+  unfolding write_checked list_put_of
   checked_says is few (illegal n i) e = (refl, refl)
   checked_says is few (all_legal es) e =
       let h = (check_legal 0 (take count judged) es).0 e in
@@ -76,14 +76,14 @@ module _ (most running : ℕ) (judged : List (Answer (Event (List ℕ)))) (count
 
   module _ (is : is_running running ≡ true) (few : count ≤ most) (es : List (Event (List ℕ))) (legal : take count judged ≡ map gives es) where
     pub write_full : length buffer < length (encode_list running es) → write_list most running judged count buffer ≡ list_left running buffer 20 0
-    unfolding write_list write_checked list_put
+    unfolding write_list write_checked list_put_of
     write_full long = rw (is, le-leb _ _ few, legal, check_given 0 es, lt-leb _ _ long)
 
     -- and what makes it accepted
     pub write_fits : length (encode_list running es) ≤ length buffer
         → write_list most running judged count buffer
         ≡ record { buffer = over (encode_list running es) buffer 0; answer = wrote (length (encode_list running es)); running = list_after running es }
-    unfolding write_list write_checked list_put
+    unfolding write_list write_checked list_put_of
     write_fits fits = rw (is, le-leb _ _ few, legal, check_given 0 es, le-leb _ _ fits)
 
 -- One event more

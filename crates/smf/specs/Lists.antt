@@ -215,15 +215,15 @@ abbrev pub list_left : ℕ → List ℕ → ℕ → ℕ → ListWritten
 list_left running buffer n i = record { buffer = buffer; answer = refuses_at n i; running = running }
 
 -- 20 where there is no room; an empty list fits room 0
-unfoldable pub list_put : ℕ → List ℕ → List (Event (List ℕ)) → ListWritten
-list_put running buffer es =
+unfoldable pub list_put_of : ℕ → List ℕ → List (Event (List ℕ)) → ListWritten
+list_put_of running buffer es =
     pick (leb (length (encode_list running es)) (length buffer))
     (record { buffer = over (encode_list running es) buffer 0; answer = wrote (length (encode_list running es)); running = list_after running es })
     (list_left running buffer 20 0)
 
 -- what writing a list that was checked leaves
 unfoldable pub write_checked : ℕ → List ℕ → Checked → ListWritten
-write_checked running buffer (all_legal es) = list_put running buffer es
+write_checked running buffer (all_legal es) = list_put_of running buffer es
 write_checked running buffer (illegal n i) = list_left running buffer n i
 
 -- document 01: 1, 21, then the first illegal event, then 20; what stands past the count is not looked at
