@@ -1,9 +1,10 @@
 /* Apkarewe: reading and writing the events of MIDI tracks, which of their notes still sound, and banks of tracks, for C
  * and C++.
  *
- * To build. `tools/native apkarewe.o` proves the entries and writes them as one object file for x86-64; link it with
- * your program, gcc -Iinclude program.c apkarewe.o. Only 64-bit little-endian machines: the proofs take size_t to be 64
- * bits wide. example/track.c is a program that reads a track, prints it and writes it back.
+ * To build. `tools/native apkarewe.o` proves the entries and writes them as one object file for x86-64, of level v2: some
+ * instructions are of SSE4. Link it with your program, gcc -Iinclude program.c apkarewe.o. The proofs take size_t to be
+ * 64 bits wide, and the machine to be little-endian. example/track.c is a program that reads a track, prints it and
+ * writes it back.
  *
  * What it needs. No heap, no files, nothing of libc but memcpy, memmove and memset. Nothing is kept between calls, so
  * that calls from several threads do not meet. The stack, read off the machine code for x86-64 by tools/stack: 19.7 KB
@@ -32,7 +33,7 @@
  *
  * What is proved. Of each entry, for all numbers and bytes that it can be given: it ends, it reads and writes within
  * the slices only, its answer is the one that its definition gives, and so is what each lent value and each lent byte
- * holds at the end, after a refusal too. The definition is named with each entry: smf.Lists.list_at is listAt in
+ * holds at the end, after a refusal too. The definition is named with each entry: smf.Lists.list_at is list_at in
  * crates/smf/specs/Lists.antt. Those of smf are written from Standard MIDI Files 1.0 and from the project's rules
  * (docs/RULES.md), those of player and bank from the rules, and none from the code; those of loader, loader_track,
  * rows, same and write, and player.Entries and bank.Entries, say how C sees an event, a table or ranges, and are made

@@ -20,7 +20,7 @@ use Rattle.bank.specs.declared.read.ReadBank.{ReadBank}
 use Rattle.bank.specs.declared.read.BankTrack.{BankTrack}
 use Rattle.bank.specs.declared.read.BankTrack.TheVariants as track
 use Rattle.bank.proofs.OneForm.{read_few}
-use Rattle.bank.proofs.Tracks.{track_there, track_none, track_inside, listed-there, listed-refused}
+use Rattle.bank.proofs.Tracks.{track_there, track_none, track_inside, listed_there, listed_refused}
 
 -- an element of the front, whatever stands for one past the end
 get_d_front : {A : Type 0} (front behind : List A) (i : ℕ) (d e : A) → i < length front → get_or (front ++ behind) i d ≡ get_or front i e
@@ -94,11 +94,11 @@ module _ (most : ℕ) (block : List ℕ) (index : ℕ) (r : BankTrack) (says : b
 
   -- and of its listing
   module _ (rules : Rules) (events : ℕ) where
-    pub said-unlisted : (n : Refusal) → r ≡ track.Refused n → track_listed rules events most block index ≡ refuses (number_of n)
-    said-unlisted n e = listed-refused most block index rules events (number_of n) (said_refused n e)
+    pub said_unlisted : (n : Refusal) → r ≡ track.Refused n → track_listed rules events most block index ≡ refuses (number_of n)
+    said_unlisted n e = listed_refused most block index rules events (number_of n) (said_refused n e)
 
-    pub said-listed : (range : Range) → r ≡ track.Track range → track_listed rules events most block index ≡ gives (list_at rules events 0 (bytes_of block (span_of range)) 0)
-    said-listed range e = listed-there most block index rules events (span_of range) (said_there range e)
+    pub said_listed : (range : Range) → r ≡ track.Track range → track_listed rules events most block index ≡ gives (list_at rules events 0 (bytes_of block (span_of range)) 0)
+    said_listed range e = listed_there most block index rules events (span_of range) (said_there range e)
 
 -- the bytes of a range, from its start to its end
 pub range_bytes : (block : List ℕ) (range : Range) → take (range.start + range.length - range.start) (drop range.start block) ≡ bytes_of block (span_of range)

@@ -35,10 +35,10 @@ module _ (ranges : List Range) (before : List ℕ) (room : length before ≡ 2 *
   cells_first = record { within = omega arith; kept = refl; final = refl }
 
   module _ {cells : List ℕ} {index : ℕ} (p : CellsPut cells index) where
-    pub cells-more : (past : Range) → index < length ranges
+    pub cells_more : (past : Range) → index < length ranges
         → CellsPut (set (set cells (2 * index) (get_or ranges index past).start) (2 * index + 1) (get_or ranges index past).length) (index + 1)
     unfolding cells_of
-    cells-more past more =
+    cells_more past more =
         let own = span_of (get_or ranges index past) in
         let two : List ℕ = own.start ∷ own.length ∷ [] in
         let stored = two_stored cells (2 * index) own.start own.length (omega (arith, p.kept)) in
@@ -60,9 +60,9 @@ module _ (ranges : List Range) (before : List ℕ) (room : length before ≡ 2 *
               ∙ ap (over behind _) place;
         }
 
-    pub cells-all : length ranges ≤ index → cells ≡ cells_of spans
+    pub cells_all : length ranges ≤ index → cells ≡ cells_of spans
     unfolding cells_of
-    cells-all last =
+    cells_all last =
         let none : drop index spans ≡ [] = drop_of_length-le spans {i = index} (omega (arith, length-map ranges span_of)) in
         let all : drop (0 + length (cells_of spans)) before ≡ [] = drop_of_length-le before {i = 0 + length (cells_of spans)} (omega (arith, cells_length spans, length-map ranges span_of)) in
         over_none cells (2 * index)

@@ -38,8 +38,8 @@ module _ (range : ℕ → Span) where
     unfolding ranges
     filled_none xs h = h ∙ ap (λ (k : ℕ). replicate k no_span) (sym (sub-zero most))
 
-    pub filled-length : (xs : List Range) (i : ℕ) → i ≤ most → Filled xs i → length xs ≡ most
-    filled-length xs i few h =
+    pub filled_length : (xs : List Range) (i : ℕ) → i ≤ most → Filled xs i → length xs ≡ most
+    filled_length xs i few h =
         sym (length-map xs span_of) ∙ ap length h ∙ length-append (ranges range 0 i) _ ∙ rw (ranges_length 0 i, length-replicate) (omega arith)
 
     pub filled_more : (xs : List Range) (i : ℕ) (x : Range) → i < most → Filled xs i → span_of x ≡ range i → Filled (set xs i x) (i + 1)
@@ -57,10 +57,10 @@ module _ (range : ℕ → Span) where
         ∙ sym (append_assoc (ranges range 0 i) (range i ∷ []) rest)
         ∙ ap (λ (l : List Span). l ++ rest) (sym next)
 
-    pub filled-all : (xs : List Range) → Filled xs most → spans_of xs ≡ ranges range 0 most
-    filled-all xs h = h ∙ ap (λ (k : ℕ). ranges range 0 most ++ replicate k no_span) (sub_self most) ∙ append-nil (ranges range 0 most)
+    pub filled_all : (xs : List Range) → Filled xs most → spans_of xs ≡ ranges range 0 most
+    filled_all xs h = h ∙ ap (λ (k : ℕ). ranges range 0 most ++ replicate k no_span) (sub_self most) ∙ append-nil (ranges range 0 most)
 
     -- as they are held
-    pub filled-held : (xs : List Range) (i : ℕ) → Filled xs i → record { tracks = spans_of xs; count = i } ≡ held_tracks most (ranges range 0 i)
+    pub filled_held : (xs : List Range) (i : ℕ) → Filled xs i → record { tracks = spans_of xs; count = i } ≡ held_tracks most (ranges range 0 i)
     unfolding held_tracks
-    filled-held xs i h = rw (h, ranges_length 0 i)
+    filled_held xs i h = rw (h, ranges_length 0 i)

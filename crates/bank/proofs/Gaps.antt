@@ -15,7 +15,7 @@ use Rattle.meta.specs.Meta.{span_of}
 use Rattle.bank.specs.Bank.{behind_entries}
 use Rattle.bank.specs.Read.{wide_from, entry_at, ranges, no_gap}
 use Rattle.bank.specs.Answers.{spans_of, BankAnswer, bank_answer}
-use Rattle.bank.proofs.Filling.{Filled, filled_none, filled_more, filled-length, filled-held}
+use Rattle.bank.proofs.Filling.{Filled, filled_none, filled_more, filled_length, filled_held}
 
 module _ (most count : ℕ) (few : count ≤ most) (block : List ℕ) where
   -- whether the tracks have no gap, all of them
@@ -41,8 +41,8 @@ module _ (most count : ℕ) (few : count ≤ most) (block : List ℕ) where
       }
 
   module _ {tracks : List Range} {place index : ℕ} (w : Walked tracks place index) where
-    pub walked-length : length tracks ≡ most
-    walked-length = filled-length (entry_at block) most tracks index (omega (arith, w.within)) w.filled
+    pub walked_length : length tracks ≡ most
+    walked_length = filled_length (entry_at block) most tracks index (omega (arith, w.within)) w.filled
 
     module _ (more : index < count) where
       -- the next entry, and those behind it
@@ -53,8 +53,8 @@ module _ (most count : ℕ) (few : count ≤ most) (block : List ℕ) where
           w.rest ∙ ap (λ (n : ℕ). no_gap place (ranges (entry_at block) index n) (length block)) left
 
       -- another offset: a gap, or tracks that overlap
-      pub walked-apart : (wide_from block (behind_entries index) ≡ place → ⊥) → bank_answer most (refuses 26) ≡ Asked
-      walked-apart h = let no : Whole ≡ false = next ∙ rw (ne_eqb (wide_from block (behind_entries index)) place h) in rw no
+      pub walked_apart : (wide_from block (behind_entries index) ≡ place → ⊥) → bank_answer most (refuses 26) ≡ Asked
+      walked_apart h = let no : Whole ≡ false = next ∙ rw (ne_eqb (wide_from block (behind_entries index)) place h) in rw no
 
       pub walked_more : (long : ℕ) (x : Range) → wide_from block (behind_entries index) ≡ place → long ≡ wide_from block (behind_entries index + 4) → long < 2 ^ 32
           → span_of x ≡ record { start = place; length = long } → Walked (set tracks index x) (place + long) (index + 1)
@@ -75,12 +75,12 @@ module _ (most count : ℕ) (few : count ≤ most) (block : List ℕ) where
       unfolding ranges no_gap
       end = w.rest ∙ rw (ended, sub_self count)
 
-      pub walked-short : (place ≡ length block → ⊥) → bank_answer most (refuses 26) ≡ Asked
-      walked-short h = let no : Whole ≡ false = end ∙ ne_eqb place (length block) h in rw no
+      pub walked_short : (place ≡ length block → ⊥) → bank_answer most (refuses 26) ≡ Asked
+      walked_short h = let no : Whole ≡ false = end ∙ ne_eqb place (length block) h in rw no
 
       pub walked_all : place ≡ length block → record { bank = record { tracks = spans_of tracks; count = count }; verdict = gives tt } ≡ Asked
       unfolding bank_answer
       walked_all h =
           let yes : Whole ≡ true = end ∙ eq-eqb place (length block) h in
           let all : Filled (entry_at block) most tracks count = rw ended at w.filled in
-          rw (yes, filled-held (entry_at block) most tracks count all)
+          rw (yes, filled_held (entry_at block) most tracks count all)

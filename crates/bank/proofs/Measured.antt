@@ -18,8 +18,8 @@ module _ (size : ℕ) where
   measured_fits sum e h = rw (← e, le-leb sum most_bytes h)
 
   module _ {r : Answer ℕ} (measured : r ≡ Measured) where
-    pub measured-large : {n : ℕ} → r ≡ refuses n → (n ≡ 20) × (most_bytes < size)
-    measured-large e = let u = ungiven (leb size most_bytes) size 20 (sym measured ∙ e) in (u.1, leb-false size most_bytes u.0)
+    pub measured_large : {n : ℕ} → r ≡ refuses n → (n ≡ 20) × (most_bytes < size)
+    measured_large e = let u = ungiven (leb size most_bytes) size 20 (sym measured ∙ e) in (u.1, leb-false size most_bytes u.0)
 
-    pub measured-small : {n : ℕ} → r ≡ gives n → (size ≡ n) × (size ≤ most_bytes)
-    measured-small e = let g = given (leb size most_bytes) size 20 (sym measured ∙ e) in (g.1, leb-true size most_bytes g.0)
+    pub measured_small : {n : ℕ} → r ≡ gives n → (size ≡ n) × (size ≤ most_bytes)
+    measured_small e = let g = given (leb size most_bytes) size 20 (sym measured ∙ e) in (g.1, leb-true size most_bytes g.0)

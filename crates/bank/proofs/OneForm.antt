@@ -103,9 +103,9 @@ module _ (block : List ℕ) (bytes : (i : ℕ) → get_or block i 0 < 256) where
       rw (long, entry, more, first)
 
   module _ (most : ℕ) {spans : List Span} (e : read_bank most block ≡ gives spans) where
-    is-form : block ≡ encode_bank (tracks_of block (entries_of block))
+    is_form : block ≡ encode_bank (tracks_of block (entries_of block))
     unfolding encode_bank
-    is-form =
+    is_form =
         let a = accepted most block e in
         let long = a.long in
         let count : ℕ = count_of block in
@@ -123,7 +123,7 @@ module _ (block : List ℕ) (bytes : (i : ℕ) → get_or block i 0 < 256) where
 
     -- a block of bytes that is read as a bank is the bank of its tracks
     pub one_form : block ≡ encode_bank (tracks_of block spans)
-    one_form = rw (← (accepted most block e).same) is-form
+    one_form = rw (← (accepted most block e).same) is_form
 
 -- whatever the elements are, what is read as a bank has no more tracks and bytes than the most, and each of its tracks is inside it
 module _ (most : ℕ) (block : List ℕ) {spans : List Span} (e : read_bank most block ≡ gives spans) where

@@ -12,7 +12,7 @@ use Rattle.base.specs.declared.Range.{Range}
 use Rattle.write.proofs.Storing.{over_none}
 use Rattle.bank.specs.Bank.{four_bytes, behind_entries, entries, bank_length}
 use Rattle.bank.specs.Write.{all_inside, tracks_of}
-use Rattle.bank.proofs.Rest.{Rest, counted, range, rest_first, rest-inside, rest-long, rest-next, rest_more, rest-bound, none}
+use Rattle.bank.proofs.Rest.{Rest, counted, range, rest_first, rest_inside, rest_long, rest_next, rest_more, rest_bound, none}
 use Rattle.bank.proofs.Rest as rest
 
 -- a range of the bytes that was put where it fits
@@ -35,24 +35,24 @@ module _ (bytes : List ℕ) (ranges : List Range) (count : ℕ) (long : count �
       pub kept : length out ≡ length before
       pub final : over (entries (behind_entries count) tracks) before 8 ≡ over (entries place (tracks_left index)) out (behind_entries index)
 
-    pub entries-first : all_inside bytes (counted bytes ranges count) ≡ true → EntriesPut before (behind_entries count) 0
-    entries-first all = record { rest = rest_first bytes ranges count long all; kept = refl; final = refl }
+    pub entries_first : all_inside bytes (counted bytes ranges count) ≡ true → EntriesPut before (behind_entries count) 0
+    entries_first all = record { rest = rest_first bytes ranges count long all; kept = refl; final = refl }
 
     module _ (room : behind_entries count ≤ length before) {out : List ℕ} {place index : ℕ} (p : EntriesPut out place index) where
-      pub entries-more : (past : Range) (out₁ out₂ : List ℕ) → (more : index < count)
+      pub entries_more : (past : Range) (out₁ out₂ : List ℕ) → (more : index < count)
           → out₁ ≡ over (four_bytes place) out (behind_entries index)
           → out₂ ≡ over (four_bytes (get_or ranges index past).length) out₁ (behind_entries index + 4)
           → EntriesPut out₂ (place + (get_or ranges index past).length) (index + 1)
       unfolding entries
-      entries-more past out₁ out₂ more one two =
+      entries_more past out₁ out₂ more one two =
           let len = (get_or ranges index past).length in
           let behind = entries (place + len) (tracks_left (index + 1)) in
           let at = behind_entries index in
           let kept₁ : length out₁ ≡ length out = ap length one ∙ length_over (four_bytes place) out at (omega (arith, p.kept)) in
           let kept₂ : length out₂ ≡ length out₁ = ap length two ∙ length_over (four_bytes len) out₁ (at + 4) (omega (arith, p.kept)) in
           let own : entries place (tracks_left index) ≡ four_bytes place ++ (four_bytes len ++ behind) =
-          ap (entries place) (rest-next bytes ranges count long p.rest past more)
-          ∙ ap (λ (n : ℕ). four_bytes place ++ (four_bytes n ++ entries (place + n) (tracks_left (index + 1)))) (rest-long bytes ranges count long p.rest past more)
+          ap (entries place) (rest_next bytes ranges count long p.rest past more)
+          ∙ ap (λ (n : ℕ). four_bytes place ++ (four_bytes n ++ entries (place + n) (tracks_left (index + 1)))) (rest_long bytes ranges count long p.rest past more)
           in
           let end : at + 4 + 4 ≡ behind_entries (index + 1) = omega arith in
           record {
@@ -68,9 +68,9 @@ module _ (bytes : List ℕ) (ranges : List Range) (count : ℕ) (long : count �
                 ∙ ap (over behind out₂) end;
           }
 
-      pub entries-all : count ≤ index → out ≡ over (entries (behind_entries count) tracks) before 8
+      pub entries_all : count ≤ index → out ≡ over (entries (behind_entries count) tracks) before 8
       unfolding entries
-      entries-all last =
+      entries_all last =
           sym (p.final ∙ ap (λ (l : List Span). over (entries place (tracks_of bytes l)) out (behind_entries index)) (none bytes ranges count long index last) ∙ sym (over_none out (behind_entries index)))
 
     -- tracks
@@ -79,31 +79,31 @@ module _ (bytes : List ℕ) (ranges : List Range) (count : ℕ) (long : count �
       pub kept : length out ≡ length before
       pub final : over (flatten tracks) before (behind_entries count) ≡ over (flatten (tracks_left index)) out place
 
-    pub tracks-first : all_inside bytes (counted bytes ranges count) ≡ true → TracksPut before (behind_entries count) 0
-    tracks-first all = record { rest = rest_first bytes ranges count long all; kept = refl; final = refl }
+    pub tracks_first : all_inside bytes (counted bytes ranges count) ≡ true → TracksPut before (behind_entries count) 0
+    tracks_first all = record { rest = rest_first bytes ranges count long all; kept = refl; final = refl }
 
     module _ (room : bank_length tracks ≤ length before) {out : List ℕ} {place index : ℕ} (p : TracksPut out place index) where
-      pub tracks-more : (past : Range) (w : Written) → (more : index < count) → w ≡ write (part bytes (range bytes ranges count long p.rest past more)) out place
+      pub tracks_more : (past : Range) (w : Written) → (more : index < count) → w ≡ write (part bytes (range bytes ranges count long p.rest past more)) out place
           → TracksPut w.buffer (place + (get_or ranges index past).length) (index + 1)
       unfolding flatten
-      tracks-more past w more e =
+      tracks_more past w more e =
           let span = range bytes ranges count long p.rest past more in
-          let bound = rest-bound bytes ranges count long p.rest past more in
-          let size = rest-long bytes ranges count long p.rest past more in
-          let put = slice_put bytes span out place w (rest-inside bytes ranges count long p.rest past more) (omega (arith, p.kept)) e in
+          let bound = rest_bound bytes ranges count long p.rest past more in
+          let size = rest_long bytes ranges count long p.rest past more in
+          let put = slice_put bytes span out place w (rest_inside bytes ranges count long p.rest past more) (omega (arith, p.kept)) e in
           let behind = flatten (tracks_left (index + 1)) in
           record {
             rest = rest_more bytes ranges count long p.rest past more;
             kept = ap length put ∙ length_over (bytes_of bytes span) out place (omega (arith, p.kept)) ∙ p.kept;
             final =
                 p.final
-                ∙ ap (λ (ts : List (List ℕ)). over (flatten ts) out place) (rest-next bytes ranges count long p.rest past more)
+                ∙ ap (λ (ts : List (List ℕ)). over (flatten ts) out place) (rest_next bytes ranges count long p.rest past more)
                 ∙ sym (over_over (bytes_of bytes span) behind out place (omega (arith, p.kept)))
                 ∙ ap (λ (n : ℕ). over behind (over (bytes_of bytes span) out place) (place + n)) size
                 ∙ ap (λ (o : List ℕ). over behind o (place + span.length)) (sym put);
           }
 
-      pub tracks-all : count ≤ index → out ≡ over (flatten tracks) before (behind_entries count)
+      pub tracks_all : count ≤ index → out ≡ over (flatten tracks) before (behind_entries count)
       unfolding flatten
-      tracks-all last =
+      tracks_all last =
           sym (p.final ∙ ap (λ (l : List Span). over (flatten (tracks_of bytes l)) out place) (none bytes ranges count long index last) ∙ sym (over_none out place))

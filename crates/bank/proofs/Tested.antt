@@ -35,9 +35,9 @@ module _ (most : ℕ) (block : List ℕ) where
         large h = there ∙ rw (lt-leb (length block) most_bytes h)
 
         module _ (small : length block ≤ most_bytes) where
-          pub other-total : (total_of block ≡ length block → ⊥) → read_bank most block ≡ refuses 26
+          pub other_total : (total_of block ≡ length block → ⊥) → read_bank most block ≡ refuses 26
           unfolding agrees
-          other-total h = there ∙ rw (le-leb (length block) most_bytes small, ne_eqb (total_of block) (length block) h)
+          other_total h = there ∙ rw (le-leb (length block) most_bytes small, ne_eqb (total_of block) (length block) h)
 
           pub walked : total_of block ≡ length block
               → read_bank most block ≡ unless (no_gap (behind_entries (count_of block)) (entries_of block) (length block)) 26 (gives (entries_of block))

@@ -42,11 +42,11 @@ module _ (most : ℕ) (block : List ℕ) (index : ℕ) where
       (λ n there. let none : refuses n ≡ gives track = rw there at e in let z : ◌≡◌ {A = ℕ} 0 1 = cc in absurd (omega arith))
 
   module _ (rules : Rules) (events : ℕ) where
-    pub listed-there : (track : Span) → track_at most block index ≡ gives track
+    pub listed_there : (track : Span) → track_at most block index ≡ gives track
         → track_listed rules events most block index ≡ gives (list_at rules events 0 (bytes_of block track) 0)
     unfolding track_listed
-    listed-there track e = rw e
+    listed_there track e = rw e
 
-    pub listed-refused : (n : ℕ) → track_at most block index ≡ refuses n → track_listed rules events most block index ≡ refuses n
+    pub listed_refused : (n : ℕ) → track_at most block index ≡ refuses n → track_listed rules events most block index ≡ refuses n
     unfolding track_listed
-    listed-refused n e = rw e
+    listed_refused n e = rw e

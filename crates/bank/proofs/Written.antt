@@ -27,22 +27,22 @@ module _ (most : ℕ) (bytes : List ℕ) (spans : List Span) (count : ℕ) (out 
   write_many h = rw (lt-leb count most h)
 
   module _ (few : count ≤ most) where
-    pub write-outside : all_inside bytes (take count spans) ≡ false → left out 19 ≡ Asked
+    pub write_outside : all_inside bytes (take count spans) ≡ false → left out 19 ≡ Asked
     unfolding ranges_bank
-    write-outside h = rw (le-leb count most few, h)
+    write_outside h = rw (le-leb count most few, h)
 
     module _ (all : all_inside bytes (take count spans) ≡ true) where
-      pub write-above : most_bytes < bank_length tracks → left out 20 ≡ Asked
+      pub write_above : most_bytes < bank_length tracks → left out 20 ≡ Asked
       unfolding ranges_bank bank_bytes
-      write-above h = rw (le-leb count most few, all, lt-leb (bank_length tracks) most_bytes h)
+      write_above h = rw (le-leb count most few, all, lt-leb (bank_length tracks) most_bytes h)
 
       module _ (small : bank_length tracks ≤ most_bytes) where
-        pub write-whole : put (encode_bank tracks) out 0 ≡ Asked
+        pub write_whole : put (encode_bank tracks) out 0 ≡ Asked
         unfolding ranges_bank bank_bytes
-        write-whole = rw (le-leb count most few, all, le-leb (bank_length tracks) most_bytes small)
+        write_whole = rw (le-leb count most few, all, le-leb (bank_length tracks) most_bytes small)
 
         pub write_full : length out < bank_length tracks → left out 20 ≡ Asked
-        write_full h = put_full (encode_bank tracks) out 0 (omega (arith, bank_length_lem tracks)) ∙ write-whole
+        write_full h = put_full (encode_bank tracks) out 0 (omega (arith, bank_length_lem tracks)) ∙ write_whole
 
         module _ (long : count ≤ length spans) (room : bank_length tracks ≤ length out) where
           many : length tracks ≡ count
@@ -80,4 +80,4 @@ module _ (most : ℕ) (bytes : List ℕ) (spans : List Span) (count : ℕ) (out 
               ap (λ (l : List ℕ). record { buffer = l; answer = gives n }) (end ∙ ap (λ (l : List ℕ). over l out 0) bank)
               ∙ ap (λ (m : ℕ). record { buffer = over (encode_bank tracks) out 0; answer = gives m }) sum
               ∙ put_fits (encode_bank tracks) out 0 (omega arith)
-              ∙ write-whole
+              ∙ write_whole

@@ -16,7 +16,7 @@ use track::list::EventList;
 use track::read::ReadList;
 
 // What listing a track of a bank answers.
-#[derive(Drop)]
+#[derive(Clone, Copy)]
 pub struct ListedTrack {
     // what reading its bytes by themselves answers; after a refusal an empty list
     pub read: ReadList,

@@ -12,7 +12,7 @@ use base::{Range, Refusal};
 use header::field::word;
 
 // What reading a bank answers.
-#[derive(Drop)]
+#[derive(Clone, Copy)]
 pub struct ReadBank {
     // the bank; after a refusal one of no tracks
     pub bank: Bank,

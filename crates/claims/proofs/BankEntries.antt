@@ -29,7 +29,7 @@ use Rattle.claims.proofs.Refusals.{write_keeps}
 use Rattle.claims.proofs.Player.{never_nought}
 use Rattle.claims.proofs.BankRefusals.{track_by, ranges_bank_by}
 use Rattle.claims.proofs.BankForms.{reads_back, unread, unread_as}
-use Rattle.bank.proofs.Tracks.{track_refused, listed-there, listed-refused}
+use Rattle.bank.proofs.Tracks.{track_refused, listed_there, listed_refused}
 use Rattle.claims.proofs.BankWrites.{accepts, accepts_only, many, outside, large, leaves}
 use Rattle.claims.proofs.BankReads.{Given, given_tracks, entry_accepts, entry_refuses, entry_given, entry_refused, given_form, given_there, given_none, given_writes}
 
@@ -67,22 +67,22 @@ module _ (bytes cells : List ℕ) (count : ℕ) (out : List ℕ) (total : ℕ) w
       keeps_by of_bank_writing wrote.answer out wrote.buffer (write_keeps of_bank_writing own out 0 (ranges_bank_by most_tracks bytes spans count) refl)
 
   module _ (r : ℕ) (out' : List ℕ) (total' : ℕ) (told : WriteTold r out' total') where
-    write-gives : r ≡ 0 → wrote.answer ≡ gives total'
-    write-gives z =
+    write_gives : r ≡ 0 → wrote.answer ≡ gives total'
+    write_gives z =
         by_answer wrote.answer (λ n e. let t = rw e at told in e ∙ ap gives (sym t.1.1))
         (λ n e. let t = rw e at told in absurd (never_nought of_bank_writing wrote.answer n wrote_by e (sym t.0 ∙ z)))
 
     write_exactly : (r ≡ 0) ↔ Allowed most_tracks bytes spans count (length out)
     write_exactly = (
-      (λ z. accepts_only most_tracks bytes spans count out total' (write-gives z)),
+      (λ z. accepts_only most_tracks bytes spans count out total' (write_gives z)),
       (λ allowed. told.0 ∙ ap (λ (w : Written). answered w.answer) (accepts most_tracks bytes spans count out allowed)),
     )
 
-    write-number : (n : ℕ) → wrote.answer ≡ refuses n → r ≡ n
-    write-number n e = told.0 ∙ ap answered e
+    write_number : (n : ℕ) → wrote.answer ≡ refuses n → r ≡ n
+    write_number n e = told.0 ∙ ap answered e
 
     write_leaves : r ≡ 0 → Leaves most_tracks (cell_tracks bytes cells count) out total' out'
-    write_leaves z = rw told.1.0 (leaves most_tracks bytes spans count out total' (write-gives z))
+    write_leaves z = rw told.1.0 (leaves most_tracks bytes spans count out total' (write_gives z))
 
     -- what was written, read
     write_reads : r ≡ 0 → (block held : List ℕ) (many r' : ℕ) (held' : List ℕ) (many' : ℕ) → ReadTold block held many r' held' many' → block ≡ take total' out'
@@ -93,7 +93,7 @@ module _ (bytes cells : List ℕ) (count : ℕ) (out : List ℕ) (total : ℕ) w
         let read = entry_accepts block held many told' back.0 back.1 in
         let given = read.1 in
         let same-tracks : cell_tracks block held' many' ≡ cell_tracks bytes cells count = given_tracks block _ _ given (cell_tracks bytes cells count) back.0 back.1 back.2 in
-        let few = (accepts_only most_tracks bytes spans count out total' (write-gives z)).few in
+        let few = (accepts_only most_tracks bytes spans count out total' (write_gives z)).few in
         let counted : many' ≡ count =
         given.counted ∙ sym (length-map (take many' (ranges_in most_tracks held')) (bytes_of block)) ∙ ap length same-tracks
         ∙ length-map (take count spans) (bytes_of bytes) ∙ length-take-le count spans (omega (arith, ranges_length (range_in cells) 0 most_tracks)) in
@@ -143,13 +143,13 @@ of_entries =
       accepts = λ κs a r e told.
           write_exactly (first a).now (second a).now (third a) (fourth a).now (fifth a).now r (fourth e).now (fifth e).now told;
       many = λ κs a r e told h.
-          write-number (first a).now (second a).now (third a) (fourth a).now (fifth a).now r (fourth e).now (fifth e).now told 25
+          write_number (first a).now (second a).now (third a) (fourth a).now (fifth a).now r (fourth e).now (fifth e).now told 25
           (many most_tracks (first a).now (ranges_in most_tracks (second a).now) (third a) (fourth a).now h);
       outside = λ κs a r e told few not.
-          write-number (first a).now (second a).now (third a) (fourth a).now (fifth a).now r (fourth e).now (fifth e).now told 19
+          write_number (first a).now (second a).now (third a) (fourth a).now (fifth a).now r (fourth e).now (fifth e).now told 19
           (outside most_tracks (first a).now (ranges_in most_tracks (second a).now) (third a) (fourth a).now few not);
       large = λ κs a r e told few inner more.
-          write-number (first a).now (second a).now (third a) (fourth a).now (fifth a).now r (fourth e).now (fifth e).now told 20
+          write_number (first a).now (second a).now (third a) (fourth a).now (fifth a).now r (fourth e).now (fifth e).now told 20
           (large most_tracks (first a).now (ranges_in most_tracks (second a).now) (third a) (fourth a).now few inner more);
       leaves = λ κs a r e told z.
           write_leaves (first a).now (second a).now (third a) (fourth a).now (fifth a).now r (fourth e).now (fifth e).now told z;
@@ -181,10 +181,10 @@ of_entries =
           (track_refused most_tracks (first a).now (second a') (entry_refused (first a).now (second a).now (third a).now told never));
       lists = λ κs a r e told z κs' a' r' e' told' b i κs'' a'' r'' e'' told'' same start status ruled rows count place after padding.
           let is = track_gives (first a).now (second a) (third a).now (fourth a).now r (third e).now (fourth e).now told z in
-          let t = rw (b, i, listed-there most_tracks (first a).now (second a) (from_bits (third a')) capacity _ is) at told' in
+          let t = rw (b, i, listed_there most_tracks (first a).now (second a) (from_bits (third a')) capacity _ is) at told' in
           agree₆ t (rw (same, start, status, ruled, rows, count, place, after, padding) at told'');
       no_track = λ κs a r e told never κs' a' r' e' told' b i.
           let is = track_refuses (first a).now (second a) (third a).now (fourth a).now r (third e).now (fourth e).now told never in
-          let t = rw (b, i, listed-refused most_tracks (first a).now (second a) (from_bits (third a')) capacity r is) at told' in
+          let t = rw (b, i, listed_refused most_tracks (first a).now (second a) (from_bits (third a')) capacity r is) at told' in
           t.0;
     }

@@ -8,7 +8,7 @@ use lib.ListN.{length, get_or, length-append, length-map}
 use Rattle.smf.specs.Answer.{gives, refuses}
 use Rattle.smf.specs.Place.{Span, inside, bytes_of}
 use Rattle.smf.specs.Write.{put}
-use Rattle.smf.proofs.Answer.{by_answer, by-lt, ungiven}
+use Rattle.smf.proofs.Answer.{by_answer, by_lt, ungiven}
 use Rattle.bank.specs.Bank.{most_bytes, four_bytes, behind_entries, entries, bank_length, encode_bank, IsBank}
 use Rattle.bank.specs.Read.{wide_from, entry_at, ranges, entries_of, no_gap, agrees, read_bank, track_at}
 use Rattle.bank.specs.Write.{all_inside, tracks_of, bank_bytes, ranges_bank}
@@ -49,7 +49,7 @@ unread most block =
     record {
       many = tested.many most block;
       short = ⊎_elim (tested.no_count most block)
-          (λ h. by-lt (length block) 4 (tested.no_count most block) (λ counted. tested.short most block counted h.0 h.1));
+          (λ h. by_lt (length block) 4 (tested.no_count most block) (λ counted. tested.short most block counted h.0 h.1));
       other = λ few long bytes none.
           by_answer (read_bank most block) (λ spans e. absurd (none (tracks_of block spans) (one_form most block spans bytes e)))
           (λ n e. e ∙ ap refuses (ungiven (agrees block) (entries_of block) 26 (sym (tested.there most block (omega arith) few long) ∙ e)).1);

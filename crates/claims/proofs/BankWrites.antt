@@ -10,12 +10,12 @@ use lib.Seq.{take-append_seam, drop-append_seam}
 use Rattle.smf.specs.Answer.{gives, refuses}
 use Rattle.smf.specs.Place.{Span, bytes_of}
 use Rattle.smf.specs.Write.{Written, over}
-use Rattle.smf.proofs.Answer.{by-test, by-lt}
+use Rattle.smf.proofs.Answer.{by_test, by_lt}
 use Rattle.smf.proofs.Write.{put_fits, length_over}
 use Rattle.bank.specs.Bank.{most_bytes, bank_length, encode_bank}
 use Rattle.bank.specs.Write.{all_inside, tracks_of, write_bank}
 use Rattle.bank.proofs.Encoded.{bank_length_lem}
-use Rattle.bank.proofs.Written.{write_many, write-outside, write-above, write-whole, write_full}
+use Rattle.bank.proofs.Written.{write_many, write_outside, write_above, write_whole, write_full}
 use Rattle.claims.specs.Bank.{Allowed, Leaves}
 use Rattle.claims.proofs.BankForms.{is_bank}
 
@@ -34,25 +34,25 @@ module _ (most : ℕ) (bytes : List ℕ) (ranges : List Span) (count : ℕ) (out
   accepts a =
       let fits = a.fits in
       let long = bank_length_lem asked in
-      sym (write-whole most bytes ranges count out a.few a.inner a.small) ∙ sym (put_fits (encode_bank asked) out 0 (omega arith))
+      sym (write_whole most bytes ranges count out a.few a.inner a.small) ∙ sym (put_fits (encode_bank asked) out 0 (omega arith))
       ∙ ap (λ (n : ℕ). record { buffer = over (encode_bank asked) out 0; answer = gives n }) (omega arith)
 
   pub many : most < count → wrote.answer ≡ refuses 25
   many h = said (write_many most bytes ranges count out h)
 
   pub outside : count ≤ most → all_inside bytes (take count ranges) ≡ false → wrote.answer ≡ refuses 19
-  outside few h = said (write-outside most bytes ranges count out few h)
+  outside few h = said (write_outside most bytes ranges count out few h)
 
   module _ (few : count ≤ most) (inner : all_inside bytes (take count ranges) ≡ true) where
     above : most_bytes < bank_length asked → wrote.answer ≡ refuses 20
-    above h = said (write-above most bytes ranges count out few inner h)
+    above h = said (write_above most bytes ranges count out few inner h)
 
     full : bank_length asked ≤ most_bytes → length out < bank_length asked → wrote.answer ≡ refuses 20
     full small h = said (write_full most bytes ranges count out few inner small h)
 
     pub large : (most_bytes < bank_length asked) ⊎ (length out < bank_length asked) → wrote.answer ≡ refuses 20
     large (inl h) = above h
-    large (inr h) = by-lt most_bytes (bank_length asked) (λ more. above more) (λ small. full small h)
+    large (inr h) = by_lt most_bytes (bank_length asked) (λ more. above more) (λ small. full small h)
 
   -- it accepts only what is allowed
   module _ (total : ℕ) (e : wrote.answer ≡ gives total) where
@@ -61,10 +61,10 @@ module _ (most : ℕ) (bytes : List ℕ) (ranges : List Span) (count : ℕ) (out
 
     pub accepts_only : Allowed most bytes ranges count (length out)
     accepts_only =
-        by-lt most count (λ h. absurd (never 25 (many h)))
-        (λ few. by-test (all_inside bytes (take count ranges))
-        (λ inner. by-lt most_bytes (bank_length asked) (λ h. absurd (never 20 (above few inner h)))
-        (λ small. by-lt (length out) (bank_length asked) (λ h. absurd (never 20 (full few inner small h)))
+        by_lt most count (λ h. absurd (never 25 (many h)))
+        (λ few. by_test (all_inside bytes (take count ranges))
+        (λ inner. by_lt most_bytes (bank_length asked) (λ h. absurd (never 20 (above few inner h)))
+        (λ small. by_lt (length out) (bank_length asked) (λ h. absurd (never 20 (full few inner small h)))
         (λ fits. record { few = few; inner = inner; small = small; fits = fits })))
         (λ not. absurd (never 19 (outside few not))))
 

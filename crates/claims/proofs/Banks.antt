@@ -39,7 +39,7 @@ use Rattle.claims.specs.Point3.{Bytes}
 use Rattle.claims.specs.Bank.{tracks_in, Allowed, Leaves, Forms, Calls}
 use Rattle.claims.proofs.Owned.{full_ranges}
 use Rattle.claims.proofs.BankForms.{bytes_at, is_bank, reads_back, one_form, unread, unread_as, bank_bytes_lem}
-use Rattle.bank.proofs.Tracks.{track_refused, listed-there, listed-refused}
+use Rattle.bank.proofs.Tracks.{track_refused, listed_there, listed_refused}
 use Rattle.claims.proofs.BankWrites.{accepts, accepts_only, many, outside, large, leaves, exactly}
 use Rattle.claims.proofs.BankReads.{Given, given_tracks, read_accepts, read_refuses, read_given, given_form, given_there, given_none, given_writes}
 
@@ -92,13 +92,13 @@ module _ (block : List ℕ) (index : ℕ) (rules : Rules) (r : ListedTrack)
       → (r.verdict ≡ verdict.Accepted) × (r.read ≡ r')
   unfolding list_answer
   list_same span is r' told' =
-      let t = rw (listed-there most_tracks block index (rules_of rules) capacity span is) at told in
+      let t = rw (listed_there most_tracks block index (rules_of rules) capacity span is) at told in
       (verdict_of_injective (ap (λ (a : ListAnswer). a.verdict) t), list_read_injective (ap (λ (a : ListAnswer). a.list) t ∙ sym told'))
 
   list_refused : (n : Refusal) → track_at most_tracks block index ≡ refuses (number_of n) → r.verdict ≡ verdict.Refused n
   unfolding list_answer
   list_refused n is =
-      let t = rw (listed-refused most_tracks block index (rules_of rules) capacity (number_of n) is) at told in
+      let t = rw (listed_refused most_tracks block index (rules_of rules) capacity (number_of n) is) at told in
       verdict_of_injective (ap (λ (a : ListAnswer). a.verdict) t)
 
 pub of_definitions : Forms

@@ -13,7 +13,7 @@ use Rattle.smf.specs.Kind as kind
 use Rattle.smf.specs.Kind.{Meta, Kind}
 use Rattle.smf.specs.Event.{Event, map_meta, map_kind, map_event, Carried, nothing, owned, untold, carries, meta_carries, legal}
 use Rattle.smf.specs.Lists.{records_judged}
-use Rattle.smf.proofs.Answer.{by-test, both, pick_test, pick_both}
+use Rattle.smf.proofs.Answer.{by_test, both, pick_test, pick_both}
 use Rattle.smf.proofs.ListLegality.{given_itself}
 use Rattle.rows.specs.Rows.{width}
 use Rattle.rows.specs.RowEvent.{cell, row_span, fields_fit, is_row, row_number_of, row_meta, row_kind, called_row, event_of_row, row_judged}
@@ -118,7 +118,7 @@ module _ (bytes : List ℕ) (h : Bytes bytes) where
   row_carried : (rules : Rules) (r : List ℕ) (l : Event (List ℕ)) → row_judged rules bytes r ≡ gives l → BytesCarried (carries l.kind)
   unfolding row_judged event_of_row called_row
   row_carried rules r l j =
-      by-test (is_row r)
+      by_test (is_row r)
       (λ is. let judged : legal rules bytes (called_row r) ≡ gives l = rw is at j in
       event_carried rules (called_row r) l judged (row_type (cell r 1) (cell r 2) (cell r 3) (cell r 4) (cell r 5) (cell r 6) (cell r 7) (row_span r) (row_fits r is)))
       (λ not. let q : ◌≡◌ {A = Answer (Event (List ℕ))} (refuses 18) (gives l) = rw not at j in let z : ◌≡◌ {A = ℕ} 0 1 = cc in absurd (omega arith))

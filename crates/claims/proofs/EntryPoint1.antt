@@ -19,7 +19,7 @@ use Rattle.smf.specs.Seconds.{rate_float, seconds_of}
 use Rattle.smf.specs.Bend.{ask_bend, ask_float}
 use Rattle.smf.specs.Event.{ReadAt, reads_at, refused_at, event_at}
 use Rattle.smf.specs.Lists.{Stop, ended, full, stopped, ListAt, list_at}
-use Rattle.smf.proofs.Answer.{pick_both, by-lt, by_answer, said_refused}
+use Rattle.smf.proofs.Answer.{pick_both, by_lt, by_answer, said_refused}
 use Rattle.smf.proofs.Write.{put_fits, put_full}
 use Rattle.track.specs.List.{capacity}
 use Rattle.rows.specs.RowEvent.{is_row}
@@ -50,11 +50,11 @@ use Rattle.claims.specs.EntrySays.{Unchanged, Outcome, AnswersBy}
 use Rattle.claims.specs.EntryPoint1.{NumberRefusals, FieldRefusals, TimeRefusals, BendRefusals, TrackRefusals, SameRefusals, ListTold, SoundingRefusals, BankRefusals, EntryPoint1}
 use Rattle.claims.proofs.Refusals.{all_among, then_by, by_more, one_of_more, number_at_by, payload_at_by, format_by, rate_by, timing_by, timing_bytes_by, time_by, time_of_by, time_bytes_by, seconds_by, position_by, bend_by, bend_float_by, number_bytes_by, payload_bytes_by, write_keeps, row_by, event_length_by}
 use Rattle.claims.proofs.ReadLeaves.{event_or_left}
-use Rattle.claims.proofs.Stands.{list-stands}
+use Rattle.claims.proofs.Stands.{list_stands}
 use Rattle.claims.proofs.EntrySays.{answers, keeps₁, keeps₂, keeps₃, writes}
-use Rattle.claims.proofs.Player.{rows_accepted_by, silence_by, answers-beside, rows_answers}
+use Rattle.claims.proofs.Player.{rows_accepted_by, silence_by, answers_beside, rows_answers}
 use Rattle.claims.proofs.BankRefusals.{bank_by, track_by, ranges_bank_by}
-use Rattle.bank.proofs.Tracks.{track_inside, listed-there, listed-refused}
+use Rattle.bank.proofs.Tracks.{track_inside, listed_there, listed_refused}
 use Rattle.claims.proofs.EntryWrites.{event_write, list_length, list_write}
 
 numbers : NumberRefusals
@@ -182,7 +182,7 @@ module _ (l : ListAt) (cells : List ℕ) where
   list_answers : (rules : Rules) (bytes : List ℕ) (most : ℕ) → Why rules bytes most l l.stop
       → (among (0 ∷ 255 ∷ []) (read_answer l cells) ≡ true) ⊎ OneOf (20 ∷ of_event rules.strict) (read_answer l cells)
   list_answers rules bytes most w =
-      by-lt (length cells) (length (sheet_of l.events))
+      by_lt (length cells) (length (sheet_of l.events))
       (λ h. rw (← put_full (sheet_of l.events) cells 0 (omega (arith, h))) (inr (twenty rules.strict)))
       (λ h. rw (← put_fits (sheet_of l.events) cells 0 (omega (arith, h))) (why_answers rules bytes most l.stop w)) where
         twenty : (b : Bool) → OneOf (20 ∷ of_event b) 20
@@ -230,11 +230,11 @@ tracks =
           let rules = from_bits (fourth a) in
           rw told.0
           (list_answers (list_given (fourth a) (third a) (first a).now (second a)) (fifth a).now rules (first a).now capacity
-          (list-stands rules (first a).now (second a) capacity (third a)).why);
+          (list_stands rules (first a).now (second a) capacity (third a)).why);
       list_read = λ κs a r e told.
           let rules = from_bits (fourth a) in
           let l = list_given (fourth a) (third a) (first a).now (second a) in
-          (l, list-stands rules (first a).now (second a) capacity (third a), list_told l _ _ _ _ _ r told);
+          (l, list_stands rules (first a).now (second a) capacity (third a), list_told l _ _ _ _ _ r told);
     }
 
 -- what was asked of two rows, or of two sets of rows
@@ -266,7 +266,7 @@ sounding : SoundingRefusals
 sounding =
     record {
       sounding_after = λ κs a r e told.
-          answers-beside (18 ∷ 21 ∷ []) (third a).now (rows_accepted capacity (first a).now (second a)) _ told (rows_accepted_by capacity (first a).now (second a));
+          answers_beside (18 ∷ 21 ∷ []) (third a).now (rows_accepted capacity (first a).now (second a)) _ told (rows_accepted_by capacity (first a).now (second a));
       sounding_silence = λ κs a r e told.
           let table = table_in (first a).now in
           rows_answers (silence capacity table (second a) (third a)) (fourth a).now (silence_by capacity table (second a) (third a)) told;
@@ -290,10 +290,10 @@ module _ (block : List ℕ) (index bits : ℕ) (rows : Lent (List ℕ)) (count p
       (λ track is.
       let rules = from_bits bits in
       let l = list_at rules capacity 0 (bytes_of block track) 0 in
-      let t = rw (listed-there most_tracks block index rules capacity track is) at told in
-      inr (track, is, track_inside most_tracks block index is, (l, list-stands rules (bytes_of block track) 0 capacity 0, list_told l rows count place after padding r t)))
+      let t = rw (listed_there most_tracks block index rules capacity track is) at told in
+      inr (track, is, track_inside most_tracks block index is, (l, list_stands rules (bytes_of block track) 0 capacity 0, list_told l rows count place after padding r t)))
       (λ n is.
-      let t = rw (listed-refused most_tracks block index (from_bits bits) capacity n is) at told in
+      let t = rw (listed_refused most_tracks block index (from_bits bits) capacity n is) at told in
       inl (rw t.0 (said_refused (By of_bank_track) (track_by most_tracks block index) is), t.1.0, t.1.1.0, t.1.1.1.0, t.1.1.1.1.0, t.1.1.1.1.1))
 
 banks : BankRefusals

@@ -12,7 +12,7 @@ use Rattle.smf.specs.Running.{is_running}
 use Rattle.smf.specs.Write.{over}
 use Rattle.smf.specs.Event.{Event, map_event, Same, encode_event, EventWritten, write_event}
 use Rattle.smf.specs.Lists.{listed, ListAt, list_at, wrote, ListWritten, write_list, SameList}
-use Rattle.smf.proofs.Answer.{by-test}
+use Rattle.smf.proofs.Answer.{by_test}
 use Rattle.smf.proofs.Write.{put_fits}
 use Rattle.smf.proofs.Event as smf
 use Rattle.smf.proofs.Legal.{is_legal, legal_strictly}
@@ -30,20 +30,20 @@ use Rattle.claims.specs.Calls.{first, second, third, fourth, fifth, sixth, seven
 use Rattle.claims.specs.Point3.{Bytes, FitsAsBytes, ListWriteSays}
 use Rattle.claims.specs.EntrySays.{said, said_list}
 use Rattle.claims.specs.EntryPoint3.{RowsBack, EntryPoint3}
-use Rattle.claims.proofs.Point3.{rows_lawful, list-write-says}
+use Rattle.claims.proofs.Point3.{rows_lawful, list_write_says}
 use Rattle.claims.proofs.Refusals.{row_by}
 use Rattle.claims.proofs.EventWrites.{event_wrote}
 use Rattle.claims.proofs.Carried.{rows_carry, fits_as_bytes}
 use Rattle.claims.proofs.ReadAgain.{left, own, read, Again, again}
 use Rattle.claims.proofs.SmfForms.{over_between}
-use Rattle.claims.proofs.EntryWrites.{EventPut, event-put, ListPut, list_put}
+use Rattle.claims.proofs.EntryWrites.{EventPut, event_put, ListPut, list_put}
 
 -- rows that are given are the events that they are over the bytes
 module _ (rules : Rules) (bytes : List ℕ) where
   pub row_itself : (r : List ℕ) (e : Event (List ℕ)) → row_judged rules bytes r ≡ gives e → (e ≡ map_event (bytes_of bytes) (called_row r)) × (is_legal rules e ≡ true)
   unfolding row_judged event_of_row
   row_itself r e h =
-      by-test (is_row r) (λ t. given_itself rules bytes (called_row r) e (rw t at h))
+      by_test (is_row r) (λ t. given_itself rules bytes (called_row r) e (rw t at h))
       (λ t. let q : ◌≡◌ {A = Answer (Event (List ℕ))} (refuses 18) (gives e) = rw t at h in let z : ◌≡◌ {A = ℕ} 0 1 = cc in absurd (omega arith))
 
   rows_themselves : (n : ℕ) (cells : List ℕ) (es : List (Event (List ℕ))) → take n (rows_judged rules bytes n cells) ≡ map gives es → es ≡ listed bytes (called_rows n cells) n
@@ -101,9 +101,9 @@ module _ (rules : Rules) (running : ℕ) (payload rows : List ℕ) (count : ℕ)
     fit cells room = omega (arith, room, sheet_length back.events, ap (λ (k : ℕ). k * width) as_many)
 
     -- its padding is none
-    rows-unpadded : (cells : List ℕ) (c p a d : ℕ) {r c' p' a' d' : ℕ} {cells' : List ℕ} → count * width ≤ length cells
+    rows_unpadded : (cells : List ℕ) (c p a d : ℕ) {r c' p' a' d' : ℕ} {cells' : List ℕ} → count * width ≤ length cells
         → ReadTold (strict_of rules) running raw 0 cells c p a d r cells' c' p' a' d' → d' ≡ 0
-    rows-unpadded cells c p a d room told =
+    rows_unpadded cells c p a d room told =
         let t = rw (← put_fits (sheet_of back.events) cells 0 (fit cells room)) at told in
         t.1.1.1.1.1 ∙ g.padding
 
@@ -130,7 +130,7 @@ module _ (rules : Rules) (running : ℕ) (payload rows : List ℕ) (count : ℕ)
   entry_bytes : Bytes payload → FitsAsBytes rules capacity running (rows_judged rules payload count rows) count out
   entry_bytes are =
       let judged = rows_judged rules payload count rows in
-      let says = list-write-says rules capacity running judged (rows_lawful rules payload count rows) count out in
+      let says = list_write_says rules capacity running judged (rows_lawful rules payload count rows) count out in
       fits_as_bytes payload are rules capacity running judged count out (rows_carry payload are rules count rows) (says.accepts.0 (n, ap (λ (l : ListWritten). l.answer) is))
 
   pub entry_unpadded : (raw : List ℕ) (at running' : ℕ) (rules' : Rules) (cells : List ℕ) (c p a d : ℕ) {r c' p' a' d' : ℕ} {cells' : List ℕ}
@@ -139,7 +139,7 @@ module _ (rules : Rules) (running : ℕ) (payload rows : List ℕ) (count : ℕ)
   entry_unpadded raw at running' rules' cells c p a d told' q at_first same strictly room =
       let g = again rules capacity running _ count out n (rows_lawful rules payload count rows) (ap (λ (l : ListWritten). l.answer) is) in
       let own : raw ≡ take n (write_list capacity running (rows_judged rules payload count rows) count out).buffer = q ∙ sym (ap (λ (l : ListWritten). take n l.buffer) is) in
-      rows-unpadded rules running payload rows count out n g cells c p a d room (rw (own, at_first, same, strictly) at told')
+      rows_unpadded rules running payload rows count out n g cells c p a d room (rw (own, at_first, same, strictly) at told')
 
   entry_again : (raw : List ℕ) (at running' : ℕ) (rules' : Rules) (cells : List ℕ) (c p a d : ℕ) {r c' p' a' d' : ℕ} {cells' : List ℕ}
       → ReadTold rules' running' raw at cells c p a d r cells' c' p' a' d' → raw ≡ take n end → at ≡ 0 → running' ≡ running → rules'.strict ≡ true
@@ -191,7 +191,7 @@ never_begins rules rules' running payload payload' row row' out out' at at' n n'
 module _ (rules : Rules) (running : ℕ) (payload row out : List ℕ) (at next : ℕ) {r next' after' : ℕ} {out' : List ℕ}
     (told : EventPut rules running payload row out at next r out' next' after') where
   pub put_answer : r ≡ 0 → (write_event running (row_judged rules payload row) out at).written.answer ≡ gives next'
-  put_answer z = ap (λ (w : EventWritten). w.written.answer) (event-put rules running payload row out at next told) ∙ ap (λ (x : ℕ). said x next') z
+  put_answer z = ap (λ (w : EventWritten). w.written.answer) (event_put rules running payload row out at next told) ∙ ap (λ (x : ℕ). said x next') z
 
 never : (rules rules' : Rules) (running running' : ℕ) (payload payload' row row' out out' : List ℕ) (at at' next next' : ℕ) {r r' n n' after after' : ℕ} {end end' : List ℕ}
     → EventPut rules running payload row out at next r end n after → r ≡ 0
@@ -211,7 +211,7 @@ entry_point_3 =
           let judged = rows_judged rules (third a).now (second a) (first a).now in
           subst (ListWriteSays rules capacity (fourth a) judged (second a) (sixth a).now)
           (list_put rules (fourth a) (third a).now (first a).now (second a) (seventh a).now (ninth a).now (sixth a).now told)
-          (list-write-says rules capacity (fourth a) judged (rows_lawful rules (third a).now (second a) (first a).now) (second a) (sixth a).now);
+          (list_write_says rules capacity (fourth a) judged (rows_lawful rules (third a).now (second a) (first a).now) (second a) (sixth a).now);
       bytes = λ κs a r e told z.
           entry_bytes (from_bits (fifth a)) (fourth a) (third a).now (first a).now (second a) (sixth a).now (seventh a).now (ninth a).now told z;
       reads_back = λ κs a r e told z κs' a' r' e' told'.

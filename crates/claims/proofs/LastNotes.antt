@@ -10,7 +10,7 @@ use Rattle.smf.specs.Place.{Span}
 use Rattle.smf.specs.Kind.{Message, note_off, note_on, aftertouch, controller, program_change, channel_aftertouch, pitch_bend}
 use Rattle.smf.specs.Kind.{Kind, midi, sys_ex, escape, meta}
 use Rattle.smf.specs.Event.{Event, event}
-use Rattle.smf.proofs.Answer.{by-test, both}
+use Rattle.smf.proofs.Answer.{by_test, both}
 use Rattle.player.specs.Table.{channels, keys, Table, entry}
 use Rattle.player.specs.Notes.{message_note, kind_note, Change, stays, becomes, note, change_by, last_of, last_note, changed, table_after}
 use Rattle.player.proofs.Joined.{last_joined, entry_after}
@@ -21,13 +21,13 @@ module _ (c k : ℕ) where
   message_stays : (delta channel : ℕ) (m : Message) → NoNote c k (event delta (midi channel m) ∷ []) → change_by c k (message_note channel m) ≡ stays
   unfolding change_by message_note
   message_stays delta channel (note_off key vel) h =
-      by-test (eqb channel c && eqb key k)
+      by_test (eqb channel c && eqb key k)
       (λ t.
       let b = both (eqb channel c) (eqb key k) t in
       absurd ((h delta vel).1 (Memᴰ.head (rw (eqb-true channel c b.0, eqb-true key k b.1)))))
       (λ t. rw t)
   message_stays delta channel (note_on key vel) h =
-      by-test (eqb channel c && eqb key k)
+      by_test (eqb channel c && eqb key k)
       (λ t.
       let b = both (eqb channel c) (eqb key k) t in
       absurd ((h delta vel).0 (Memᴰ.head (rw (eqb-true channel c b.0, eqb-true key k b.1)))))

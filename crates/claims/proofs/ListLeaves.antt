@@ -89,16 +89,16 @@ module _ (judged : List (Answer (Event (List ℕ)))) (numbered : AllBy judged) (
     abbrev SizeGood : ListSize → Type 0
     SizeGood w = SizeLeaves judged count running w w.answer
 
-    size-checked : (c : Checked) → check 0 (take count judged) ≡ c → SizeGood (size_checked running c)
+    size_checked_lem : (c : Checked) → check 0 (take count judged) ≡ c → SizeGood (size_checked running c)
     unfolding size_checked
-    size-checked (all_legal es) e = tt
-    size-checked (illegal n i) e = (illegal_at of_list_length refl n i e, refl)
+    size_checked_lem (all_legal es) e = tt
+    size_checked_lem (illegal n i) e = (illegal_at of_list_length refl n i e, refl)
 
-    pub size-leaves : SizeGood (size_list most running judged count)
+    pub size_leaves : SizeGood (size_list most running judged count)
     unfolding size_list
-    size-leaves =
+    size_leaves =
         pick_both SizeGood (is_running running)
-        (pick_both SizeGood (leb count most) (size-checked (check 0 (take count judged)) refl) (none_at of_list_length 21 refl refl, refl))
+        (pick_both SizeGood (leb count most) (size_checked_lem (check 0 (take count judged)) refl) (none_at of_list_length 21 refl refl, refl))
         (none_at of_list_length 1 refl refl, refl)
 
     module _ (out : List ℕ) where
@@ -110,9 +110,9 @@ module _ (judged : List (Answer (Event (List ℕ)))) (numbered : AllBy judged) (
       checked (illegal n i) e = (illegal_at of_list_writing refl n i e, refl, refl)
       checked (all_legal es) e = pick_both Good (leb (length (encode_list running es)) (length out)) tt (none_at of_list_writing 20 refl refl, refl, refl)
 
-      pub list-leaves : Good (write_list most running judged count out)
+      pub list_leaves_lem : Good (write_list most running judged count out)
       unfolding write_list
-      list-leaves =
+      list_leaves_lem =
           pick_both Good (is_running running)
           (pick_both Good (leb count most) (checked (check 0 (take count judged)) refl) (none_at of_list_writing 21 refl refl, refl, refl))
           (none_at of_list_writing 1 refl refl, refl, refl)

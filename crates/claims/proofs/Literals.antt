@@ -21,7 +21,7 @@ use Rattle.smf.specs.Running.{is_running}
 use Rattle.smf.specs.Kind.{meta, unknown}
 use Rattle.smf.specs.Place.{Span, inside}
 use Rattle.smf.specs.Event.{Event, ReadAt, reads_at, refused_at, event_at, meta_fits, kind_fits, carries, meta_carries, is_named, legal, encode_event, EventWritten, event_left, write_judged, write_event}
-use Rattle.smf.proofs.Answer.{by-test, by-lt, given, pick_test}
+use Rattle.smf.proofs.Answer.{by_test, by_lt, given, pick_test}
 use Rattle.smf.proofs.Write.{part_long, part_bytes}
 use Rattle.smf.proofs.ListLegality.{given_length, check_illegal}
 use Rattle.smf.proofs.ListWrites.{write_invalid, write_many, write_illegal, write_full}
@@ -52,13 +52,13 @@ use Rattle.claims.specs.SmfForms.{Unnamed}
 use Rattle.claims.proofs.Calls as calls
 use Rattle.claims.proofs.SmfForms.{unnamed_form}
 use Rattle.claims.proofs.ReadLeaves.{event_or_left}
-use Rattle.claims.proofs.Stands.{list-stands}
+use Rattle.claims.proofs.Stands.{list_stands}
 
 -- a width's numbers are those up to the largest
 up_to_lem : (w x largest : ℕ) → 2 ^ w ≡ largest + 1 → try_width w x ≡ up_to largest x
 unfolding try_width
 up_to_lem w x largest e =
-    by-lt x (2 ^ w)
+    by_lt x (2 ^ w)
     (λ h. rw (lt-ltb x (2 ^ w) h, le-leb x largest (omega (arith, e))))
     (λ h. rw (le-ltb x (2 ^ w) h, lt-leb x largest (omega (arith, e))))
 
@@ -133,7 +133,7 @@ bend_is : (raw : ℕ) → ask_bend raw ≡ pick (leb raw 16383) (gives (pos raw 
 unfolding ask_bend
 bend_is raw =
     rw (up_to_lem 14 raw 16383 refl)
-    (by-test (leb raw 16383) (λ h. rw h) (λ h. rw h))
+    (by_test (leb raw 16383) (λ h. rw h) (λ h. rw h))
 
 values : Values
 values =
@@ -169,7 +169,7 @@ list_said : (raw : List ℕ) (at : ℕ) (running : Running) (rules : base.Rules)
     → (length (list_read_of r).list.records ≡ 128) × (drop (list_read_of r).list.count (list_read_of r).list.records ≡ replicate (128 - (list_read_of r).list.count) past_count)
 list_said raw at running rules r told =
     held (list_read_of r) 128 (list_at (rules_of rules) 128 running.status raw at).events (ap (λ (l : ListHeld). l.list) told)
-    (list-stands (rules_of rules) raw at 128 running.status).few
+    (list_stands (rules_of rules) raw at 128 running.status).few
 
 -- The limit of a payload
 
@@ -233,9 +233,9 @@ module _ (a : List ℕ) (m : ℕ) (b : List ℕ) (n : ℕ) where
   sheets_refused Rule z told =
       record {
         first_many = λ h. said_number 21 Rule z (rw (lt-leb m 128 h) at told);
-        second_many = λ h. by-test (leb m 128) (λ t. said_number 21 Rule z (rw (t, lt-leb n 128 h) at told)) (λ t. said_number 21 Rule z (rw t at told));
+        second_many = λ h. by_test (leb m 128) (λ t. said_number 21 Rule z (rw (t, lt-leb n 128 h) at told)) (λ t. said_number 21 Rule z (rw t at told));
         first_row = λ l h none. said_number 18 Rule z (rw (le-leb m 128 l, le-leb n 128 h, none) at told);
-        second_row = λ l h none. by-test (are_rows m a) (λ t. said_number 18 Rule z (rw (le-leb m 128 l, le-leb n 128 h, t, none) at told))
+        second_row = λ l h none. by_test (are_rows m a) (λ t. said_number 18 Rule z (rw (le-leb m 128 l, le-leb n 128 h, t, none) at told))
             (λ t. said_number 18 Rule z (rw (le-leb m 128 l, le-leb n 128 h, t) at told));
       }
 
@@ -275,7 +275,7 @@ module _ (rules : Rules) (running : ℕ) (bytes : List ℕ) (e : Event Span) (ou
     named : span.start + span.length ≤ length bytes → span.length ≤ 268435455 → (Unnamed t span.length → ⊥) → legal rules bytes e ≡ refuses 23
     unfolding legal kind_fits meta_fits carries meta_carries inside
     named h l not =
-        by-test (is_named rules t span.length)
+        by_test (is_named rules t span.length)
         (λ n. rw (is, lt-ltb e.delta (2 ^ 28) (omega arith), le-leb (span.start + span.length) (length bytes) h, lt-ltb span.length (2 ^ 28) (omega arith), n))
         (λ n. absurd (not (unnamed_form t span.length rules n)))
 

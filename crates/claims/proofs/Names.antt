@@ -8,7 +8,7 @@ use lib.ListN.{length, length-map}
 use Rattle.smf.specs.Place.{Span}
 use Rattle.smf.specs.Kind.{midi, note_off}
 use Rattle.smf.specs.Event.{Event}
-use Rattle.smf.proofs.Answer.{by-lt}
+use Rattle.smf.proofs.Answer.{by_lt}
 use Rattle.track.specs.List.{capacity}
 use Rattle.player.specs.Table.{channels, keys, Table, key_place}
 use Rattle.player.specs.Sounding.{note_off_at, silence_from}
@@ -20,7 +20,7 @@ use Rattle.claims.specs.Sounding.{off, Before, Sounds, Names}
 -- Places and keys
 
 before_of : (p q c k c' k' : ℕ) → p / keys ≡ c → p % keys ≡ k → q / keys ≡ c' → q % keys ≡ k' → p < q → Before c k c' k'
-before_of p q c k c' k' e e₁ e₂ e₃ h = by-lt c c' (λ less. inl less) (λ more. inr (omega arith, omega arith))
+before_of p q c k c' k' e e₁ e₂ e₃ h = by_lt c c' (λ less. inl less) (λ more. inr (omega arith, omega arith))
 
 place_before : (c k c' k' : ℕ) → k < keys → Before c k c' k' → key_place c k < key_place c' k'
 place_before c k c' k' h b = ⊎_elim (λ (less : c < c'). omega arith) (λ (same : (c ≡ c') × (k < k')). omega arith) b
@@ -87,8 +87,8 @@ module _ (t : Table) (channel key c k : ℕ) (hk : key < keys) (s : Sounds t cha
 
   not_before : key_place channel key ≤ key_place c k
   not_before =
-      by-lt (key_place c k) (key_place channel key)
-      (λ h. by-lt c channel (λ less. absurd (s.behind (inl less))) (λ more. absurd (s.behind (inr (omega (arith, s.key_fits), omega (arith, s.key_fits))))))
+      by_lt (key_place c k) (key_place channel key)
+      (λ h. by_lt c channel (λ less. absurd (s.behind (inl less))) (λ more. absurd (s.behind (inr (omega (arith, s.key_fits), omega (arith, s.key_fits))))))
       (λ h. h)
 
   named_or_full : Memᴰ (off c k) (map note_off_at named)

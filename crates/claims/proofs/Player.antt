@@ -11,7 +11,7 @@ use Rattle.smf.specs.Answer.{Answer, gives, refuses, and_then}
 use Rattle.smf.specs.Place.{Span}
 use Rattle.smf.specs.Write.{Written, put}
 use Rattle.smf.specs.Event.{Event}
-use Rattle.smf.proofs.Answer.{by-test, pick_both, both, given, said_refused}
+use Rattle.smf.proofs.Answer.{by_test, pick_both, both, given, said_refused}
 use Rattle.rows.specs.RowLists.{are_rows, called_rows}
 use Rattle.rows.specs.Sheet.{sheet_of}
 use Rattle.player.specs.Table.{channels, keys, Table, key_place}
@@ -50,8 +50,8 @@ module _ {A : Type 0} (ns : List ℕ) (other : A) where
 
   module _ {B : Type 0} (x : Answer B) (f : B → A) {value : A} {number : ℕ} (told : with_number value number ≡ beside other (and_then x (λ (y : B). gives (f y)))) where
     -- it refuses by the numbers that its first part does
-    pub answers-beside : By ns x → AnswersBy ns number (value ≡ other)
-    answers-beside b =
+    pub answers_beside : By ns x → AnswersBy ns number (value ≡ other)
+    answers_beside b =
         rw (ap (λ (w : Beside A). w.number) told, ap (λ (w : Beside A). w.value) told)
         (beside_answers (and_then x (λ (y : B). gives (f y))) (then_by ns x (λ (y : B). gives (f y)) b (λ y. tt)))
 
@@ -80,7 +80,7 @@ module _ (most : ℕ) (records : List (Event Span)) (count : ℕ) where
   pub accepts_only : (es : List (Event Span)) → accepted most records count ≡ gives es → (count ≤ most) × (all_within es ≡ true) × (take count records ≡ es)
   unfolding accepted
   accepts_only es e =
-      by-test (leb count most)
+      by_test (leb count most)
       (λ t.
       let g = given (all_within (take count records)) (take count records) 18 (rw t at e) in
       (leb-true count most t, rw (← g.1) g.0, g.1))
@@ -112,7 +112,7 @@ module _ (most : ℕ) (cells : List ℕ) (count : ℕ) where
       → (count ≤ most) × ((are_rows count cells && all_within (called_rows count cells)) ≡ true) × (called_rows count cells ≡ es)
   unfolding rows_accepted
   rows_accepts_only es e =
-      by-test (leb count most)
+      by_test (leb count most)
       (λ t.
       let g = given (are_rows count cells && all_within (called_rows count cells)) (called_rows count cells) 18 (rw t at e) in
       (leb-true count most t, g.0, g.1))
@@ -134,7 +134,7 @@ module _ (most : ℕ) (t : Table) (channel key : ℕ) where
   pub asks_none : ((channel < channels) × (key < keys) → ⊥) → silence most t channel key ≡ refuses 18
   unfolding silence
   asks_none outside =
-      by-test (within 4 channel && within 7 key)
+      by_test (within 4 channel && within 7 key)
       (λ h. let b = both (within 4 channel) (within 7 key) h in absurd (outside (ltb-true channel 16 b.0, ltb-true key 128 b.1)))
       (λ h. rw h)
 

@@ -36,11 +36,11 @@ use Rattle.claims.specs.Point1.{Numbered, Point1}
 use Rattle.claims.proofs.Calls as calls
 use Rattle.claims.proofs.Refusals.{by_more, number_at_by, payload_at_by, meta_at_by, width_by, format_by, rate_by, timing_by, timing_bytes_by, time_by, time_of_by, time_bytes_by, seconds_by, position_by, bend_by, bend_float_by, number_bytes_by, payload_bytes_by, write_keeps, legal_by, row_by, event_length_by}
 use Rattle.claims.proofs.BankRefusals.{bank_by, track_by, listed_by, ranges_bank_by, part_by, bank_keeps, list_keeps}
-use Rattle.claims.proofs.Player.{accepted_by, silence_by, answers-beside}
+use Rattle.claims.proofs.Player.{accepted_by, silence_by, answers_beside}
 use Rattle.claims.proofs.ReadLeaves.{event_or_left}
-use Rattle.claims.proofs.Stands.{list-stands}
+use Rattle.claims.proofs.Stands.{list_stands}
 use Rattle.claims.proofs.EventWrites.{event_leaves}
-use Rattle.claims.proofs.ListLeaves.{records_by, rows_by, size-leaves, list-leaves}
+use Rattle.claims.proofs.ListLeaves.{records_by, rows_by, size_leaves, list_leaves_lem}
 
 table : (n : Refusal) → in_table (number_of n) ≡ true
 table refusal.RunningStatus = refl
@@ -104,7 +104,7 @@ numbered =
 list_said : (raw : List ℕ) (at : ℕ) (running : Running) (rules : Rules) (r : ReadList) → list_read_of r ≡ held_as capacity (list_at (rules_of rules) capacity running.status raw at)
     → (l : ListAt) × (list_read_of r ≡ held_as capacity l) × ListStands (rules_of rules) raw capacity running.status at l
 list_said raw at running rules r told =
-    (list_at (rules_of rules) capacity running.status raw at, told, list-stands (rules_of rules) raw at capacity running.status)
+    (list_at (rules_of rules) capacity running.status raw at, told, list_stands (rules_of rules) raw at capacity running.status)
 
 pub point_1 : Point1
 point_1 =
@@ -132,21 +132,21 @@ point_1 =
           (event_leaves running.status (row_judged (rules_of rules) bytes row) (row_by (rules_of rules) bytes row) out at));
       list_length = calls.list_length _ (λ list running rules bytes r told.
           subst (λ (w : ListSize). SizeLeaves (records_judged (rules_of rules) bytes (map record_of list.records)) list.count running.status w w.answer) (sym told)
-          (size-leaves (records_judged (rules_of rules) bytes (map record_of list.records)) (records_by (rules_of rules) bytes (map record_of list.records)) list.count capacity running.status));
+          (size_leaves (records_judged (rules_of rules) bytes (map record_of list.records)) (records_by (rules_of rules) bytes (map record_of list.records)) list.count capacity running.status));
       write_list_lem = calls.write_list_lem _ (λ list running rules bytes out r end told.
           subst (λ (w : ListWritten). ListLeaves (records_judged (rules_of rules) bytes (map record_of list.records)) list.count running.status out w w.answer) (sym told)
-          (list-leaves (records_judged (rules_of rules) bytes (map record_of list.records)) (records_by (rules_of rules) bytes (map record_of list.records)) list.count capacity running.status out));
+          (list_leaves_lem (records_judged (rules_of rules) bytes (map record_of list.records)) (records_by (rules_of rules) bytes (map record_of list.records)) list.count capacity running.status out));
       rows_length = calls.rows_length _ (λ rows count running rules bytes r told.
           subst (λ (w : ListSize). SizeLeaves (rows_judged (rules_of rules) bytes count rows) count running.status w w.answer) (sym told)
-          (size-leaves (rows_judged (rules_of rules) bytes count rows) (rows_by (rules_of rules) bytes count rows) count capacity running.status));
+          (size_leaves (rows_judged (rules_of rules) bytes count rows) (rows_by (rules_of rules) bytes count rows) count capacity running.status));
       write_rows = calls.write_rows _ (λ rows count running rules bytes out r end told.
           subst (λ (w : ListWritten). ListLeaves (rows_judged (rules_of rules) bytes count rows) count running.status out w w.answer) (sym told)
-          (list-leaves (rows_judged (rules_of rules) bytes count rows) (rows_by (rules_of rules) bytes count rows) count capacity running.status out));
+          (list_leaves_lem (rows_judged (rules_of rules) bytes count rows) (rows_by (rules_of rules) bytes count rows) count capacity running.status out));
       after = calls.after _ (λ table list left number told.
           let records = map record_of list.records in
-          answers-beside (18 ∷ 21 ∷ []) table (accepted capacity records list.count) _ told (accepted_by capacity records list.count));
+          answers_beside (18 ∷ 21 ∷ []) table (accepted capacity records list.count) _ told (accepted_by capacity records list.count));
       silence = calls.silence _ (λ table channel key list number told.
-          answers-beside (18 ∷ []) (holding capacity []) (silence capacity table channel.0 key.0) _ told (silence_by capacity table channel.0 key.0));
+          answers_beside (18 ∷ []) (holding capacity []) (silence capacity table channel.0 key.0) _ told (silence_by capacity table channel.0 key.0));
       write_slice = calls.write_slice _ (λ bytes slice out at r end told.
           let own = part bytes (record { start = slice.start; length = slice.length }) in
           subst (λ (w : smf.Written). Keeps (19 ∷ 20 ∷ []) w.answer out w.buffer) (sym told)

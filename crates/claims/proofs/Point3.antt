@@ -14,7 +14,7 @@ use Rattle.smf.proofs.Write.{length_over}
 use Rattle.smf.proofs.Legal.{AllLegal, all_strictly}
 use Rattle.smf.proofs.Lists.{ReadsBack, list_reads_back, list_read, list_valid}
 use Rattle.smf.proofs.ListLegality.{given_length, Lawful, lawful_all, lawful_take, records_lawful}
-use Rattle.smf.proofs.ListWrites.{write_wrote, write_refused, write-fits, front_own, front_beyond}
+use Rattle.smf.proofs.ListWrites.{write_wrote, write_refused, write_fits, front_own, front_beyond}
 use Rattle.rows.specs.Rows.{width}
 use Rattle.rows.specs.RowLists.{rows_judged}
 use Rattle.write.proofs.Judging.{row_lawful}
@@ -52,8 +52,8 @@ module _ (rules : Rules) (most running : ℕ) where
       written = write_list most running judged count buffer
 
       -- the own bytes stand in front
-      own-front : (n : ℕ) (e : written.answer ≡ wrote n) → take n written.buffer ≡ encode_list running (write_wrote most running judged count buffer n e).events
-      own-front n e =
+      own_front : (n : ℕ) (e : written.answer ≡ wrote n) → take n written.buffer ≡ encode_list running (write_wrote most running judged count buffer n e).events
+      own_front n e =
           let a = write_wrote most running judged count buffer n e in
           let own = encode_list running a.events in
           ap (take n) a.front ∙ ap (λ (k : ℕ). take k (over own buffer 0)) a.size ∙ front_own own buffer
@@ -62,14 +62,14 @@ module _ (rules : Rules) (most running : ℕ) where
       pub unpadded : (n : ℕ) → written.answer ≡ wrote n → paddings (read_list (strict_of rules) most running (take n written.buffer)).events ≡ 0
       unpadded n e =
           let a = write_wrote most running judged count buffer n e in
-          rw (own-front n e) (back a.events a.valid a.few a.legal).padding
+          rw (own_front n e) (back a.events a.valid a.few a.legal).padding
 
       accepted : (n : ℕ) → written.answer ≡ wrote n → Accepted rules most running judged count buffer written n
       accepted n e =
           let a = write_wrote most running judged count buffer n e in
           let own = encode_list running a.events in
           let b = back a.events a.valid a.few a.legal in
-          let front = own-front n e in
+          let front = own_front n e in
           record {
             events = a.events;
             legal = a.legal;
@@ -81,13 +81,13 @@ module _ (rules : Rules) (most running : ℕ) where
           }
 
       -- where some bytes fit, the own bytes do
-      own-fit : (f : Fits rules most running judged count buffer) → written.answer ≡ wrote (length (encode_list running f.1.0))
-      own-fit f =
+      own_fit : (f : Fits rules most running judged count buffer) → written.answer ≡ wrote (length (encode_list running f.1.0))
+      own_fit f =
           let es = f.1.0 in
           let s = f.1.2.0 in
           let r = f.1.2.2 in
           let room : length (encode_list running es) ≤ length buffer = omega (arith, f.1.2.1, fewer es s r) in
-          ap (λ (w : ListWritten). w.answer) (write-fits most running judged count buffer (valid es s r) f.0 es f.1.1 room)
+          ap (λ (w : ListWritten). w.answer) (write_fits most running judged count buffer (valid es s r) f.0 es f.1.1 room)
 
       -- and where they are written, they are bytes that fit
       some_fit : (n : ℕ) → written.answer ≡ wrote n → Fits rules most running judged count buffer
@@ -97,13 +97,13 @@ module _ (rules : Rules) (most running : ℕ) where
           (a.few, (a.events, a.legal, (encode_list running a.events, omega (arith, a.size, a.room), record { events = b.events; all = b.stop }, list_bytes rules running a.events (laws a.events a.legal))))
 
       -- whatever the list's events were made of
-      pub list-write-says : ListWriteSays rules most running judged count buffer written
-      list-write-says =
+      pub list_write_says : ListWriteSays rules most running judged count buffer written
+      list_write_says =
           record {
-            accepts = ((λ w. some_fit w.0 w.1), (λ f. (length (encode_list running f.1.0), own-fit f)));
+            accepts = ((λ w. some_fit w.0 w.1), (λ f. (length (encode_list running f.1.0), own_fit f)));
             accepted = accepted;
             refused = write_refused most running judged count buffer;
           }
 
 pub writes : Writes
-writes rules most running bytes records count buffer = list-write-says rules most running _ (records_lawful rules bytes records) count buffer
+writes rules most running bytes records count buffer = list_write_says rules most running _ (records_lawful rules bytes records) count buffer

@@ -34,7 +34,7 @@ use Rattle.write.specs.declared.answer.WroteList.TheVariants as list
 use Rattle.claims.specs.Point3.{Bytes, FitsAsBytes, ListWriteSays, ReadBack, ReadAgain, NeverBegins, Point3}
 use Rattle.claims.specs.Calls.{EventListRead, WriteEvent}
 use Rattle.claims.proofs.Calls as calls
-use Rattle.claims.proofs.Point3.{rows_lawful, list-write-says, writes}
+use Rattle.claims.proofs.Point3.{rows_lawful, list_write_says, writes}
 use Rattle.claims.proofs.Refusals.{legal_by}
 use Rattle.claims.proofs.Carried.{TypeBytes, records_carry, rows_carry, fits_as_bytes}
 use Rattle.claims.proofs.Owned.{full_list, list_types}
@@ -156,7 +156,7 @@ rows_fit : (rows : List ℕ) (count : ℕ) (running : Running) (rules : base.Rul
 rows_fit rows count running rules bytes out r end told n h payload =
     let judged = rows_judged (rules_of rules) bytes count rows in
     fits_as_bytes bytes payload (rules_of rules) capacity running.status judged count out (rows_carry bytes payload (rules_of rules) count rows)
-    ((list-write-says (rules_of rules) capacity running.status judged (rows_lawful (rules_of rules) bytes count rows) count out).accepts.0
+    ((list_write_says (rules_of rules) capacity running.status judged (rows_lawful (rules_of rules) bytes count rows) count out).accepts.0
     (n, sym (ap (λ (w : ListWritten). w.answer) told) ∙ h))
 
 pub point_3 : Point3
@@ -167,7 +167,7 @@ point_3 =
           (writes (rules_of rules) capacity running.status bytes (map record_of list.records) list.count out));
       writes_rows = calls.write_rows _ (λ rows count running rules bytes out r end told.
           subst (ListWriteSays (rules_of rules) capacity running.status (rows_judged (rules_of rules) bytes count rows) count out) (sym told)
-          (list-write-says (rules_of rules) capacity running.status (rows_judged (rules_of rules) bytes count rows) (rows_lawful (rules_of rules) bytes count rows) count out));
+          (list_write_says (rules_of rules) capacity running.status (rows_judged (rules_of rules) bytes count rows) (rows_lawful (rules_of rules) bytes count rows) count out));
       bytes = λ κs a r e told good n h payload.
           records_fit a.0 a.1.0 a.1.1.0 a.1.1.1.0.now a.1.1.1.1.0.now r e.1.1.1.1.0.now told n h payload (list_types κs a good);
       bytes_rows = calls.write_rows _ rows_fit;

@@ -13,7 +13,7 @@ use Rattle.smf.proofs.Lists.{list_ended}
 use Rattle.smf.proofs.ListLegality.{Lawful}
 use Rattle.smf.proofs.ListPlaces.{list_reached}
 use Rattle.smf.proofs.ListWrites.{write_wrote}
-use Rattle.claims.proofs.Point3.{unpadded, list-write-says}
+use Rattle.claims.proofs.Point3.{unpadded, list_write_says}
 
 module _ (rules : Rules) (most running : ℕ) (judged : List (Answer (Event (List ℕ)))) (count : ℕ) (out : List ℕ) (n : ℕ) where
   abbrev pub left : ListWritten
@@ -38,7 +38,7 @@ module _ (rules : Rules) (most running : ℕ) (judged : List (Answer (Event (Lis
   pub again : Lawful rules judged → left.answer ≡ wrote n → Again
   unfolding list_at
   again lawful e =
-      let a = (list-write-says rules most running judged lawful count out).accepted n e in
+      let a = (list_write_says rules most running judged lawful count out).accepted n e in
       let size : length own ≡ n = length-take-le n left.buffer (omega (arith, a.long, (write_wrote most running judged count out n e).room)) in
       let end = list_ended (strict_of rules) most running own a.reads.all in
       record {

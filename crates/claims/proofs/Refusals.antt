@@ -21,7 +21,7 @@ use Rattle.smf.specs.Bend.{ask_bend, ask_float}
 use Rattle.smf.specs.Kind.{is_text, narrow, called_meta}
 use Rattle.smf.specs.MetaAt.{read_meta_message, meta_at}
 use Rattle.smf.specs.Event.{Event, kind_fits, kind_load, kind_misnamed, no_span, span_length, legal}
-use Rattle.smf.proofs.Answer.{by-test, pick_both, pick_test, both}
+use Rattle.smf.proofs.Answer.{by_test, pick_both, pick_test, both}
 use Rattle.rows.specs.RowEvent.{is_row, called_row, event_of_row, row_judged}
 use Rattle.write.specs.Raw.{raw_judged}
 use Rattle.write.specs.Size.{size_judged, size_event}
@@ -43,7 +43,7 @@ among_more : (ms ns : List ℕ) (n : ℕ) → all_among ms ns ≡ true → among
 among_more ms [] n h e = absurd (true≢false (sym e))
 among_more ms (m ∷ ns) n h e =
     let b = both (among ms m) (all_among ms ns) h in
-    by-test (eqb n m) (λ t. rw (eqb-true n m t) b.0) (λ t. among_more ms ns n b.1 (rw t at e))
+    by_test (eqb n m) (λ t. rw (eqb-true n m t) b.0) (λ t. among_more ms ns n b.1 (rw t at e))
 
 pub one_of_more : (ms ns : List ℕ) (n : ℕ) → all_among ms ns ≡ true → OneOf ns n → OneOf ms n
 one_of_more ms ns n h e =
@@ -61,7 +61,7 @@ Each P (n ∷ ns) = P n × Each P ns
 
 each : (P : ℕ → Type 0) (ns : List ℕ) → Each P ns → (n : ℕ) → among ns n ≡ true → P n
 each P [] h n e = absurd (true≢false (sym e))
-each P (m ∷ ns) h n e = by-test (eqb n m) (λ t. subst P (sym (eqb-true n m t)) h.0) (λ t. each P ns h.1 n (rw t at e))
+each P (m ∷ ns) h n e = by_test (eqb n m) (λ t. subst P (sym (eqb-true n m t)) h.0) (λ t. each P ns h.1 n (rw t at e))
 
 pub one_of : (P : ℕ → Type 0) (ns : List ℕ) → Each P ns → (n : ℕ) → OneOf ns n → P n
 one_of P ns h n e = each P ns h n (both (in_table n) (among ns n) e).1

@@ -10,7 +10,7 @@ use lib.Dec.{eqb}
 use Rattle.smf.specs.Place.{Span}
 use Rattle.smf.specs.Kind.{midi, note_off}
 use Rattle.smf.specs.Event.{Event}
-use Rattle.smf.proofs.Answer.{by-test, both}
+use Rattle.smf.proofs.Answer.{by_test, both}
 use Rattle.player.specs.Table.{keys, Table}
 use Rattle.player.specs.Notes.{table_after}
 use Rattle.player.specs.Sounding.{note_off_at, silence_from}
@@ -34,7 +34,7 @@ at_mem : (c k : ℕ) (ps : List ℕ) → at c k ps ≡ true → Memᴰ (off c k)
 unfolding at
 at_mem c k [] e = absurd (true≢false (sym e))
 at_mem c k (p ∷ ps) e =
-    by-test (eqb (p / keys) c && eqb (p % keys) k)
+    by_test (eqb (p / keys) c && eqb (p % keys) k)
     (λ t.
     let b = both (eqb (p / keys) c) (eqb (p % keys) k) t in
     Memᴰ.head (rw (eqb-true (p / keys) c b.0, eqb-true (p % keys) k b.1)))
@@ -49,5 +49,5 @@ module _ (most : ℕ) (t : Table) (place : ℕ) where
         named = λ c k hc hk m. entry_silenced most t place c k hc hk ∙ rw (mem_at c k ps m);
         others = λ c k hc hk not.
             entry_silenced most t place c k hc hk
-            ∙ by-test (at c k ps) (λ e. absurd (not (at_mem c k ps e))) (λ e. rw e);
+            ∙ by_test (at c k ps) (λ e. absurd (not (at_mem c k ps e))) (λ e. rw e);
       }

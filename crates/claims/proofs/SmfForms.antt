@@ -24,12 +24,12 @@ use Rattle.smf.specs.Kind.{Message, Meta, Kind, raw_message, raw_meta, raw_of}
 use Rattle.smf.specs.Event.{Event, message_fits, meta_fits, kind_fits, carries, meta_carries, kind_load, kind_misnamed, is_named, legal, encode_event, EventWritten, event_written, write_judged, write_event, event, map_kind, span_before, event_at, reads_at}
 use Rattle.smf.proofs.Legal.{is_legal}
 use Rattle.smf.proofs.Event.{is_legal_lem, event_read_lem, legal_exactly}
-use Rattle.smf.proofs.Answer.{by-test, by_answer, by-lt, both, given, pick_test}
+use Rattle.smf.proofs.Answer.{by_test, by_answer, by_lt, both, given, pick_test}
 use Rattle.smf.proofs.Number.{encode_is_number, encode_value, shortest}
 use Rattle.smf.proofs.Write.{number_bytes_wide, number_bytes_lem, part_outside, part_long, part_bytes}
 use Rattle.smf.proofs.Payload.{encode_payload_length}
 use Rattle.smf.proofs.Kind.{LegalKind, is_text_lem}
-use Rattle.smf.proofs.Smpte.{by-rate, rate_small, in_range, time_length}
+use Rattle.smf.proofs.Smpte.{by_rate, rate_small, in_range, time_length}
 use Rattle.smf.specs.Header as smf
 use Rattle.smf.specs.Header.{two_bytes_of, read_field, to_format, is_format, read_format, format_bytes, is_timing, timing_from, read_timing, timing_bytes, encode_timing}
 use Rattle.base.specs.Rules.{rules_of}
@@ -74,7 +74,7 @@ payload_form p h = record { number = encode_number (length p); counts = number_f
 
 coded : (rate : ℕ) → is_rate rate ≡ true → RateCode (code_of_rate rate) rate
 unfolding code_of_rate
-coded = by-rate (λ (rate : ℕ). RateCode (code_of_rate rate) rate) form.fps24 form.fps25 form.fps29 form.fps30
+coded = by_rate (λ (rate : ℕ). RateCode (code_of_rate rate) rate) form.fps24 form.fps25 form.fps29 form.fps30
 
 key_form : (z : ℤ) → mag z < 128 → KeyByte z (byte_of_signed z)
 unfolding byte_of_signed
@@ -89,7 +89,7 @@ mode_form false = form.major
 module _ (t n : ℕ) where
   short : (u least : ℕ) → (eqb t u && leb least n) ≡ false → ((n < least) → Unnamed u n) → (eqb t u ≡ false → Unnamed t n) → Unnamed t n
   short u least o named others =
-      by-test (eqb t u)
+      by_test (eqb t u)
       (λ e. subst (λ (m : ℕ). Unnamed m n) (sym (eqb-true t u e)) (named (leb-false least n (rw e at o))))
       others
 
@@ -246,7 +246,7 @@ put_is a s at n w told e = subst (Puts a at w) e (subst (λ (x : Written). Puts 
 -- a number and a payload that have bytes have their shortest
 pub number_shortest : (v : ℕ) (bs : List ℕ) → number_bytes v ≡ gives bs → (v < 2 ^ 28) × (bs ≡ encode_number v)
 number_shortest v bs e =
-    by-lt v (2 ^ 28) (λ h. (h, same_answer (sym e ∙ number_bytes_lem v h))) (λ h. absurd (no_answer (sym (number_bytes_wide v h) ∙ e)))
+    by_lt v (2 ^ 28) (λ h. (h, same_answer (sym e ∙ number_bytes_lem v h))) (λ h. absurd (no_answer (sym (number_bytes_wide v h) ∙ e)))
 
 number_own : (v : ℕ) (bs : List ℕ) → number_bytes v ≡ gives bs → Fewest (NumberForm v) bs
 number_own v bs e =
@@ -256,9 +256,9 @@ number_own v bs e =
 payload_own : (bytes : List ℕ) (start n : ℕ) (bs : List ℕ) → payload_bytes bytes start n ≡ gives bs → Fewest (PayloadForm (take n (drop start bytes))) bs
 payload_own bytes start n bs e =
     let p = take n (drop start bytes) in
-    by-lt (length bytes) (start + n)
+    by_lt (length bytes) (start + n)
     (λ out. absurd (no_answer (sym (part_outside bytes start n out) ∙ e)))
-    (λ inside. by-lt n (2 ^ 28)
+    (λ inside. by_lt n (2 ^ 28)
     (λ h. subst (Fewest (PayloadForm p)) (same_answer (sym (part_bytes bytes start n inside h) ∙ e))
     (record { form = payload_form p (omega (arith, length-take-le n (drop start bytes) (omega (arith, length-drop start bytes)))); fewest = payload_fewest p }))
     (λ h. absurd (no_answer (sym (part_long bytes start n inside h) ∙ e))))
@@ -339,7 +339,7 @@ module _ (rules : Rules) (running : ℕ) (bytes : List ℕ) (event : Event Span)
   owns : Owns written written.written.answer
   unfolding write_event write_judged
   owns =
-      by-test (is_running running)
+      by_test (is_running running)
       (λ is. by_answer judged (λ l h. rw (is, h) (legal_owns is l h (put (encode_event running l) out at) refl)) (λ m h. rw (is, h) tt))
       (λ not. rw not tt)
 

@@ -68,9 +68,9 @@ module _ (rules : Rules) where
     abbrev taking : ℕ → ℕ
     taking upper = pick (eqb upper 0xC) 1 (pick (eqb upper 0xD) 1 2)
 
-    with-one : (upper a : ℕ) → 8 ≤ upper → upper < 15 → taking upper ≡ 1 → a < 0x80 → Reads (message_one upper a) (upper * 16 + c) (a ∷ [])
+    with_one : (upper a : ℕ) → 8 ≤ upper → upper < 15 → taking upper ≡ 1 → a < 0x80 → Reads (message_one upper a) (upper * 16 + c) (a ∷ [])
     unfolding data_length read_channel read_one name_raw named called
-    with-one upper a l h takes p =
+    with_one upper a l h takes p =
         let high : (upper * 16 + c) / 16 ≡ upper = omega arith in
         let rem : (upper * 16 + c) % 16 ≡ c = omega arith in
         let is : Channel (upper * 16 + c) = record { low = omega arith; high = omega arith } in
@@ -92,15 +92,15 @@ module _ (rules : Rules) where
           runs = λ rest. at_data (upper * 16 + c) a (b ∷ rest) is p;
         }
 
-    channel-read : (m : Message) (status : ℕ) (s : List ℕ) → ChannelForm c m status s → Reads m status s
+    channel_read : (m : Message) (status : ℕ) (s : List ℕ) → ChannelForm c m status s → Reads m status s
     unfolding message_one message_two
-    channel-read _ _ _ (form.note_off {key} {vel} p q) = with_two 0x8 key vel (omega arith) (omega arith) refl p q
-    channel-read _ _ _ (form.note_on {key} {vel} p q) = with_two 0x9 key vel (omega arith) (omega arith) refl p q
-    channel-read _ _ _ (form.aftertouch {key} {vel} p q) = with_two 0xA key vel (omega arith) (omega arith) refl p q
-    channel-read _ _ _ (form.controller {number} {value} p q) = with_two 0xB number value (omega arith) (omega arith) refl p q
-    channel-read _ _ _ (form.program_change {program} p) = with-one 0xC program (omega arith) (omega arith) refl p
-    channel-read _ _ _ (form.channel_aftertouch {vel} p) = with-one 0xD vel (omega arith) (omega arith) refl p
-    channel-read _ _ _ (form.pitch_bend {low} {high} p q) =
+    channel_read _ _ _ (form.note_off {key} {vel} p q) = with_two 0x8 key vel (omega arith) (omega arith) refl p q
+    channel_read _ _ _ (form.note_on {key} {vel} p q) = with_two 0x9 key vel (omega arith) (omega arith) refl p q
+    channel_read _ _ _ (form.aftertouch {key} {vel} p q) = with_two 0xA key vel (omega arith) (omega arith) refl p q
+    channel_read _ _ _ (form.controller {number} {value} p q) = with_two 0xB number value (omega arith) (omega arith) refl p q
+    channel_read _ _ _ (form.program_change {program} p) = with_one 0xC program (omega arith) (omega arith) refl p
+    channel_read _ _ _ (form.channel_aftertouch {vel} p) = with_one 0xD vel (omega arith) (omega arith) refl p
+    channel_read _ _ _ (form.pitch_bend {low} {high} p q) =
         let e : low + 128 * high ≡ high * 128 + low = omega arith in
         subst (λ (n : ℕ). Reads (kind.pitch_bend n) (0xE0 + c) (low ∷ high ∷ [])) e (with_two 0xE low high (omega arith) (omega arith) refl p q)
 
@@ -178,10 +178,10 @@ module _ (rules : Rules) where
       → name_raw rules (read_body rules running delta (s ++ rest)) ≡ reads (taken (event delta.value k) rest after (delta.padding + body_padding f))
   unfolding read_body read_status read_meta name_raw named called
   body_read running delta _ _ _ rest (form.channel {c} {status} {m} {s} low f) =
-      let r = channel-read c delta low m status s f in
+      let r = channel_read c delta low m status s f in
       rw (le-ltb status 0x80 r.is.low, lt-ltb status 0xF0 r.is.high, add-zero) (r.reads_as rest)
   body_read running delta _ _ _ rest (form.under {c} {m} {s} low f) =
-      let r = channel-read c delta low m running s f in
+      let r = channel_read c delta low m running s f in
       rw (r.runs rest, add-zero) (r.reads_as rest)
   body_read running delta _ _ _ rest (form.sys_ex {p} {s} f) = rw (payload_read p s rest f)
   body_read running delta _ _ _ rest (form.escape {p} {s} f) = rw (payload_read p s rest f)

@@ -15,7 +15,7 @@ use Rattle.smf.specs.Event as smf
 use Rattle.smf.specs.Event.{Event, map_event}
 use Rattle.smf.specs.Lists.{event_from, read_list, list_at, Held, filler, holding, ListHeld, held_as, records_judged, listed}
 use Rattle.smf.proofs.Lists.{list_read}
-use Rattle.smf.proofs.Answer.{by-test, by_answer}
+use Rattle.smf.proofs.Answer.{by_test, by_answer}
 use Rattle.base.specs.Rules.{rules_of}
 use Rattle.track.specs.List.{capacity, record_of, held_of}
 use Rattle.track.specs.Read.{list_read_of}
@@ -139,7 +139,7 @@ named_at (p ∷ ps) (suc j) h = named_at ps j (omega arith)
 -- the place of the key behind one is the place behind its own
 next_place : (q c k : ℕ) → q / keys ≡ c → q % keys ≡ k → key_place (next_channel c k) (next_key k) ≡ suc q
 next_place q c k channel key =
-    by-test (eqb (k + 1) keys) (λ t. let last = eqb-true (k + 1) keys t in rw t (omega arith)) (λ t. rw t (omega arith))
+    by_test (eqb (k + 1) keys) (λ t. let last = eqb-true (k + 1) keys t in rw t (omega arith)) (λ t. rw t (omega arith))
 
 nothing_behind : (t : Table) → length (sounding_from t places) ≡ 0
 unfolding sounding_from sounding_of numbers_from

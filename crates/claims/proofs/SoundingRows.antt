@@ -11,7 +11,7 @@ use Rattle.smf.specs.Answer.{refuses}
 use Rattle.smf.specs.Place.{Span}
 use Rattle.smf.specs.Write.{put}
 use Rattle.smf.specs.Event.{Event}
-use Rattle.smf.proofs.Answer.{by-test, by_answer, both}
+use Rattle.smf.proofs.Answer.{by_test, by_answer, both}
 use Rattle.smf.proofs.Write.{put_fits}
 use Rattle.track.specs.List.{capacity}
 use Rattle.rows.specs.Rows.{width}
@@ -109,7 +109,7 @@ put_accepted : (es : List (Event Span)) (cells : List ℕ) (cells' : List ℕ) (
     → (cells' ≡ sheet_of es ++ drop (0 + length (sheet_of es)) cells) × (count' ≡ length es)
 unfolding put
 put_accepted es cells cells' count' told =
-    by-test (leb (0 + length (sheet_of es)) (length cells))
+    by_test (leb (0 + length (sheet_of es)) (length cells))
     (λ t. let e = rw t at told in (ap (λ (w : CellsLeft). w.cells) e, ap (λ (w : CellsLeft). w.count) e))
     (λ t. let e = rw t at told in let z : ◌≡◌ {A = ℕ} 0 20 = ap (λ (w : CellsLeft). w.number) e in absurd (omega arith))
 

@@ -10,7 +10,7 @@ use Rattle.smf.specs.Running.{is_running}
 use Rattle.smf.proofs.Place.{Sited}
 use Rattle.smf.specs.Event.{EventAt, ReadAt, reads_at, refused_at, event_at}
 use Rattle.smf.specs.Lists.{Stop, ended, full, stopped, ListAt, list_placed, read_more, list_at}
-use Rattle.smf.proofs.Answer.{by-test, by-lt}
+use Rattle.smf.proofs.Answer.{by_test, by_lt}
 use Rattle.smf.proofs.Place.{site_begun}
 use Rattle.smf.proofs.Reading.{event_invalid}
 use Rattle.smf.proofs.ListPlaces.{in_front, list_begun, list_invalid, more_end, more_full, more_refused, more_step, more_next}
@@ -61,9 +61,9 @@ module _ (rules : Rules) (bytes : List ℕ) (at : ℕ) where
 
   mores : (most running place : ℕ) → Sited bytes at place → More most running place (more most running place)
   mores zero running place site =
-      by-lt place (length bytes) (at_full running place site) (at_end zero running place site)
+      by_lt place (length bytes) (at_full running place site) (at_end zero running place site)
   mores (suc most) running place site =
-      by-lt place (length bytes)
+      by_lt place (length bytes)
       (λ h. one most running place site h (mores most) (event_at rules running bytes place) refl (event_or_left rules bytes running place))
       (at_end (suc most) running place site)
 
@@ -90,5 +90,5 @@ module _ (rules : Rules) (bytes : List ℕ) (at : ℕ) where
           invalid = λ _. refl;
         })
 
-    pub list-stands : ListStands rules bytes most running at list
-    list-stands = by-test (is_running running) valid not_valid
+    pub list_stands : ListStands rules bytes most running at list
+    list_stands = by_test (is_running running) valid not_valid

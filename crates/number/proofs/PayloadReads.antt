@@ -20,13 +20,13 @@ module _ (rules : Rules) (s : List ℕ) (at : ℕ) {r : ReadNumber} (read : numb
   slice_refused e = sym (payload_refused rules s at (sym read ∙ ap number_read_of e))
 
   module _ {n : NumberAt} (e : r ≡ Number n) where
-    pub slice-whole : {left : ℕ} → left ≡ length s - n.next → n.value.0 ≤ left → gives (record { span = record { start = n.next; length = n.value.0 }; padding = n.padding }) ≡ payload_at rules s at
-    slice-whole count h = sym (payload_whole rules s at _ (sym read ∙ ap number_read_of e) (omega arith))
+    pub slice_whole : {left : ℕ} → left ≡ length s - n.next → n.value.0 ≤ left → gives (record { span = record { start = n.next; length = n.value.0 }; padding = n.padding }) ≡ payload_at rules s at
+    slice_whole count h = sym (payload_whole rules s at _ (sym read ∙ ap number_read_of e) (omega arith))
 
     -- what is left there, as it was counted
     module _ {left : ℕ} (count : left ≡ length s - n.next) (h : left < n.value.0) where
-      pub slice-cut-strict : rules.strict ≡ true → refuses 11 ≡ payload_at rules s at
-      slice-cut-strict t = sym (payload_cut_strict rules s at _ (sym read ∙ ap number_read_of e) (omega arith) t)
+      pub slice_cut_strict : rules.strict ≡ true → refuses 11 ≡ payload_at rules s at
+      slice_cut_strict t = sym (payload_cut_strict rules s at _ (sym read ∙ ap number_read_of e) (omega arith) t)
 
-      pub slice-cut-lenient : rules.strict ≡ false → gives (record { span = record { start = n.next; length = left }; padding = n.padding }) ≡ payload_at rules s at
-      slice-cut-lenient t = sym (payload_cut_lenient rules s at _ (sym read ∙ ap number_read_of e) (omega arith) t ∙ rw count)
+      pub slice_cut_lenient : rules.strict ≡ false → gives (record { span = record { start = n.next; length = left }; padding = n.padding }) ≡ payload_at rules s at
+      slice_cut_lenient t = sym (payload_cut_lenient rules s at _ (sym read ∙ ap number_read_of e) (omega arith) t ∙ rw count)

@@ -11,7 +11,7 @@ use Rattle.smf.specs.Event.{Event}
 use Rattle.player.specs.Table.{Table}
 use Rattle.player.specs.Widths.{event_within, accepted}
 use Rattle.player.specs.Answers.{with_number, beside, table_beside}
-use Rattle.player.proofs.Steps.{Played, played-refused}
+use Rattle.player.proofs.Steps.{Played, played_refused}
 
 module _ (t : Table) (most : ℕ) (es : List (Event Span)) (count : ℕ) where
   -- 21 comes first
@@ -20,13 +20,13 @@ module _ (t : Table) (most : ℕ) (es : List (Event Span)) (count : ℕ) where
   too_many h = rw (lt-leb count most h)
 
   module _ (few : count ≤ most) where
-    pub all-taken : {index : ℕ} {u : Table} → Played t es count index u → count ≤ index → with_number u 0 ≡ table_beside t (accepted most es count)
+    pub all_taken : {index : ℕ} {u : Table} → Played t es count index u → count ≤ index → with_number u 0 ≡ table_beside t (accepted most es count)
     unfolding accepted beside
-    all-taken {index} p last =
+    all_taken {index} p last =
         let all : index ≡ count = omega (arith, p.passed) in
         rw (le-leb count most few, ← all, p.fits, p.table)
 
-    pub one-refused : {index : ℕ} {u : Table} → Played t es count index u → (d : Event Span) → index < count → count ≤ length es → event_within (get_or es index d) ≡ false
+    pub one_refused : {index : ℕ} {u : Table} → Played t es count index u → (d : Event Span) → index < count → count ≤ length es → event_within (get_or es index d) ≡ false
         → with_number t 18 ≡ table_beside t (accepted most es count)
     unfolding accepted beside
-    one-refused p d more there h = rw (le-leb count most few, played-refused t es count p d more there h)
+    one_refused p d more there h = rw (le-leb count most few, played_refused t es count p d more there h)

@@ -32,21 +32,21 @@ module _ (vs : List ℕ) where
   counted_first = record { within = omega arith; few = omega arith; left = omega arith }
 
   module _ {n key : ℕ} (c : Counted n key) where
-    pub counted-all : length vs ≤ key → n ≡ sounding_count vs
+    pub counted_all : length vs ≤ key → n ≡ sounding_count vs
     unfolding sounding_count
-    counted-all last = omega (arith, c.left, ap sounding_count (drop_of_length-le vs {i = key} last))
+    counted_all last = omega (arith, c.left, ap sounding_count (drop_of_length-le vs {i = key} last))
 
     module _ (more : key < length vs) where
       ahead : sounding_count (drop key vs) ≡ pick (eqb (get_or vs key 0) 0) 0 1 + sounding_count (drop (key + 1) vs)
       unfolding sounding_count
       ahead = ap sounding_count (drop-cons vs key 0 more ∙ ap (λ (k : ℕ). get_or vs key 0 ∷ drop k vs) (sym (add-one key)))
 
-      pub counted-silent : get_or vs key 0 ≡ 0 → Counted n (key + 1)
-      counted-silent silent =
+      pub counted_silent : get_or vs key 0 ≡ 0 → Counted n (key + 1)
+      counted_silent silent =
           record { within = omega arith; few = omega (arith, c.few); left = omega (arith, c.left, rw (eq-eqb (get_or vs key 0) 0 silent) at ahead) }
 
-      pub counted-sounding : (get_or vs key 0 ≡ 0 → ⊥) → Counted (n + 1) (key + 1)
-      counted-sounding sounds =
+      pub counted_sounding : (get_or vs key 0 ≡ 0 → ⊥) → Counted (n + 1) (key + 1)
+      counted_sounding sounds =
           record { within = omega arith; few = omega (arith, c.few); left = omega (arith, c.left, rw (ne_eqb (get_or vs key 0) 0 sounds) at ahead) }
 
 -- the counts of a table, channel by channel

@@ -87,9 +87,9 @@ module _ (cap count : ℕ) (cells bytes : List ℕ) where
           let r = was_refused (table_in bytes) t (table_after (table_in bytes)) (called_rows count cells) m (all_within (called_rows count cells)) answered some in
           rw (le-leb count cap few, given.0, r.0, r.1)
 
-      pub rows-entered : m ≡ 0 → (end : List ℕ) → end ≡ bytes_in t → with_number end 0 ≡ Asked
+      pub rows_entered : m ≡ 0 → (end : List ℕ) → end ≡ bytes_in t → with_number end 0 ≡ Asked
       unfolding rows_accepted beside
-      rows-entered ok end is =
+      rows_entered ok end is =
           let r = was_given (table_in bytes) t (table_after (table_in bytes)) (called_rows count cells) m (all_within (called_rows count cells)) answered ok in
           rw (le-leb count cap few, given.0, r.0, is, r.1)
 
@@ -107,23 +107,23 @@ module _ (cap : ℕ) (t : Table) (channel key : ℕ) (held : Held) (n : ℕ) (sa
   silence_refused some cells = let r = was_refused (holding cap []) held (holding cap) off n Fits said some in rw (r.0, r.1)
 
   module _ (none : n ≡ 0) where
-    silence-given : (Fits ≡ true) × (held ≡ holding cap off)
+    silence_given : (Fits ≡ true) × (held ≡ holding cap off)
     unfolding silence
-    silence-given = was_given (holding cap []) held (holding cap) off n Fits said none
+    silence_given = was_given (holding cap []) held (holding cap) off n Fits said none
 
-    silence-count : held.count ≡ length off
-    silence-count = held_count cap off held silence-given.1
+    silence_count : held.count ≡ length off
+    silence_count = held_count cap off held silence_given.1
 
-    pub silence-few : held.count ≤ cap
-    silence-few = omega (arith, silence-count, silence_fits cap t (key_place channel key))
+    pub silence_few : held.count ≤ cap
+    silence_few = omega (arith, silence_count, silence_fits cap t (key_place channel key))
 
     module _ (cells : List ℕ) where
-      pub silence-no-room : length cells < held.count * width → cells_left cells 0 20 ≡ silence_left (silence cap t channel key) cells
+      pub silence_no_room : length cells < held.count * width → cells_left cells 0 20 ≡ silence_left (silence cap t channel key) cells
       unfolding silence silence_left
-      silence-no-room h = rw (silence-given.0, ← put_full (sheet_of off) cells 0 (omega (arith, sheet_length off, silence-count)))
+      silence_no_room h = rw (silence_given.0, ← put_full (sheet_of off) cells 0 (omega (arith, sheet_length off, silence_count)))
 
-      pub silence-put : held.count * width ≤ length cells → (end : List ℕ) → end ≡ over (sheet_of (take held.count held.records)) cells 0
+      pub silence_put : held.count * width ≤ length cells → (end : List ℕ) → end ≡ over (sheet_of (take held.count held.records)) cells 0
           → cells_left end held.count 0 ≡ silence_left (silence cap t channel key) cells
       unfolding silence silence_left
-      silence-put h end is =
-          rw (silence-given.0, ← put_fits (sheet_of off) cells 0 (omega (arith, sheet_length off, silence-count)), is, counted_held cap off held silence-given.1, silence-count)
+      silence_put h end is =
+          rw (silence_given.0, ← put_fits (sheet_of off) cells 0 (omega (arith, sheet_length off, silence_count)), is, counted_held cap off held silence_given.1, silence_count)

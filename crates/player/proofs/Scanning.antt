@@ -58,21 +58,21 @@ module _ (cap : ℕ) (t : Table) (from : ℕ) where
 
   module _ {xs : List Record} {n place : ℕ} (s : Scanned xs n place) where
     -- as many as a list holds, or no place left
-    pub scanned-full : cap ≤ n → Holds cap xs n (silence_from cap t from)
+    pub scanned_full : cap ≤ n → Holds cap xs n (silence_from cap t from)
     unfolding silence_from
-    scanned-full full =
+    scanned_full full =
         let none : cap - n ≡ 0 = omega arith in
         rw (s.sofar, none, append-nil s.events) s.held
 
-    pub scanned-all : places ≤ place → Holds cap xs n (silence_from cap t from)
-    scanned-all last = rw (s.sofar, silence_past (cap - n) t place last, append-nil s.events) s.held
+    pub scanned_all : places ≤ place → Holds cap xs n (silence_from cap t from)
+    scanned_all last = rw (s.sofar, silence_past (cap - n) t place last, append-nil s.events) s.held
 
-    pub scanned-silent : place < places → velocity_at t place ≡ 0 → Scanned xs n (place + 1)
-    scanned-silent more silent =
+    pub scanned_silent : place < places → velocity_at t place ≡ 0 → Scanned xs n (place + 1)
+    scanned_silent more silent =
         record { events = s.events; held = s.held; few = s.few; sofar = s.sofar ∙ ap (◌++◌ s.events) (silence_silent (cap - n) t place more silent) }
 
-    pub scanned-sounding : n < cap → place < places → (velocity_at t place ≡ 0 → ⊥) → (x : Record) → record_of x ≡ note_off_at place → Scanned (set xs n x) (n + 1) (place + 1)
-    scanned-sounding room more sounds x is =
+    pub scanned_sounding : n < cap → place < places → (velocity_at t place ≡ 0 → ⊥) → (x : Record) → record_of x ≡ note_off_at place → Scanned (set xs n x) (n + 1) (place + 1)
+    scanned_sounding room more sounds x is =
         let left : cap - n ≡ suc (cap - (n + 1)) = omega arith in
         record {
           events = s.events ++ (note_off_at place ∷ []);

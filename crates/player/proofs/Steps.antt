@@ -115,8 +115,8 @@ module _ {P : Type 0} (t : Table) (es : List (Event P)) (count : ℕ) where
     unfolding all_within
     fits_next b h = ap all_within ahead ∙ all_joined (take index es) (next ∷ []) ∙ rw (p.fits, h) (and-true b)
 
-    played-more : event_within next ≡ true → Played (index + 1) (noted u (kind_note next.kind))
-    played-more h =
+    played_more : event_within next ≡ true → Played (index + 1) (noted u (kind_note next.kind))
+    played_more h =
         record {
           passed = omega arith;
           table =
@@ -128,11 +128,11 @@ module _ {P : Type 0} (t : Table) (es : List (Event P)) (count : ℕ) where
         }
 
     -- the same, of the table that the code makes
-    pub played-note : event_within next ≡ true → (n : Note) → kind_note next.kind ≡ n → (w : Table) → w ≡ noted u n → Played (index + 1) w
-    played-note h n is w e = subst (Played (index + 1)) (ap (noted u) is ∙ sym e) (played-more h)
+    pub played_note : event_within next ≡ true → (n : Note) → kind_note next.kind ≡ n → (w : Table) → w ≡ noted u n → Played (index + 1) w
+    played_note h n is w e = subst (Played (index + 1)) (ap (noted u) is ∙ sym e) (played_more h)
 
-    pub played-refused : event_within next ≡ false → all_within (take count es) ≡ false
-    played-refused h =
+    pub played_refused : event_within next ≡ false → all_within (take count es) ≡ false
+    played_refused h =
         let all : count ≡ (index + 1) + (count - (index + 1)) = omega arith in
         ap (λ (n : ℕ). all_within (take n es)) all
         ∙ ap all_within (take-add (index + 1) (count - (index + 1)) es)

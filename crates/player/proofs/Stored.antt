@@ -27,7 +27,7 @@ module _ (rule : ℕ → ℕ) (n : ℕ) where
           there = below_more _ i (λ k h. get_or-set_other xs i k v 0 (λ (e : k ≡ i). omega arith) ∙ s.there k h) (get_or-set_same xs i v 0 (rw s.long more) ∙ is);
         }
 
-    pub stored-all : n ≤ i → xs ≡ map rule (numbers_from 0 n)
-    stored-all last =
+    pub stored_all : n ≤ i → xs ≡ map rule (numbers_from 0 n)
+    stored_all last =
         ext_get_or 0 xs (map rule (numbers_from 0 n)) (s.long ∙ sym (length_mapped rule n))
         (λ k h. s.there k (omega (arith, s.long)) ∙ sym (mapped_at rule n k 0 (omega (arith, s.long))))

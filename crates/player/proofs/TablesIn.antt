@@ -29,9 +29,9 @@ module _ (bytes : List ℕ) where
           there = below_more _ place (λ p h. velocity_set_other f.shaped place v more p (λ (e : p ≡ place). omega arith) ∙ f.there p h) (velocity_set_same f.shaped place v more);
         }
 
-    pub filled-all : places ≤ place → t ≡ table_in bytes
+    pub filled_all : places ≤ place → t ≡ table_in bytes
     unfolding table_in
-    filled-all last =
+    filled_all last =
         table_ext f.shaped (shaped_of (λ c k. get_or bytes (key_place c k) 0))
         (λ c k hc hk.
         sym (velocity_at_lem t c k hk)

@@ -42,25 +42,25 @@ module _ (cap count : ℕ) (cells : List ℕ) where
       }
 
   module _ {xs : List Record} {at left : ℕ} (g : Taking xs at left) where
-    pub taking-none : 0 < left → is_row (take width (drop at cells)) ≡ false → with_number (holding cap []) 18 ≡ RowsTaken
+    pub taking_none : 0 < left → is_row (take width (drop at cells)) ≡ false → with_number (holding cap []) 18 ≡ RowsTaken
     unfolding beside
-    taking-none more h = rw (sym (looked_none g.looked more h))
+    taking_none more h = rw (sym (looked_none g.looked more h))
 
-    called-all : left ≤ 0 → called_rows count cells ≡ g.events
+    called_all : left ≤ 0 → called_rows count cells ≡ g.events
     unfolding called_rows
-    called-all last =
+    called_all last =
         let none : left ≡ 0 = omega arith in
         g.sofar ∙ ap (λ (n : ℕ). g.events ++ called_rows n (drop at cells)) none ∙ append-nil g.events
 
-    pub taking-all : left ≤ 0 → with_number (record { records = map record_of xs; count = count }) 0 ≡ RowsTaken
+    pub taking_all : left ≤ 0 → with_number (record { records = map record_of xs; count = count }) 0 ≡ RowsTaken
     unfolding beside
-    taking-all last =
+    taking_all last =
         let every : count - left ≡ count = omega arith in
-        rw (← looked_last g.looked last, called-all last, ← g.held, every)
+        rw (← looked_last g.looked last, called_all last, ← g.held, every)
 
-    pub taking-more : 0 < left → count ≤ cap → is_row (take width (drop at cells)) ≡ true → (x : Record) → called_row (take width (drop at cells)) ≡ record_of x
+    pub taking_more : 0 < left → count ≤ cap → is_row (take width (drop at cells)) ≡ true → (x : Record) → called_row (take width (drop at cells)) ≡ record_of x
         → Taking (set xs (count - left) x) (at + width) (left - 1)
-    taking-more more cap-holds h x is =
+    taking_more more cap-holds h x is =
         let on : (count - left) + 1 ≡ count - (left - 1) = omega (arith, g.few) in
         record {
           looked = looked_more g.looked more h;

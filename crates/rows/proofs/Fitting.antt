@@ -7,7 +7,7 @@ use lib.Dec.{ltb, leb, eqb}
 use borrow.Author.Tests.{ltb-true, ltb-false, leb-true, lt-leb, eqb-true, eqb-false, ne_eqb}
 use Rattle.smf.specs.Kind.{is_text}
 use Rattle.smf.specs.Smpte.{is_rate}
-use Rattle.smf.proofs.Answer.{by-test, both}
+use Rattle.smf.proofs.Answer.{by_test, both}
 use Rattle.rows.specs.RowEvent.{are_bytes, time_fits, fields_fit}
 
 pub record Bytes (a b c d e : ℕ) : Type 0 where
@@ -51,18 +51,18 @@ none_low n a b c d e f h =
 -- the last of the channel messages
 pub is_bend : (n a b c d e f : ℕ) → n < 15 → (n ≡ 8 → ⊥) → (n ≡ 9 → ⊥) → (n ≡ 10 → ⊥) → (n ≡ 11 → ⊥) → (n ≡ 12 → ⊥) → (n ≡ 13 → ⊥) → fields_fit n a b c d e f ≡ true → n ≡ 14
 is_bend n a b c d e f h n8 n9 n10 n11 n12 n13 t =
-    by-test (ltb n 8) (λ q. absurd (true≢false (sym t ∙ none_low n a b c d e f (ltb-true n 8 q)))) (λ q. omega (arith, ltb-false n 8 q))
+    by_test (ltb n 8) (λ q. absurd (true≢false (sym t ∙ none_low n a b c d e f (ltb-true n 8 q)))) (λ q. omega (arith, ltb-false n 8 q))
 
 -- the channel is a byte
 pub channel : (n a b c d e f : ℕ) → n < 15 → fields_fit n a b c d e f ≡ true → a < 256
 unfolding fields_fit
 channel n a b c d e f h t =
-    by-test (eqb n 8) (λ q. (bytes a b c 0 0 (at 8 a b c d e f (eqb-true n 8 q) t)).a-fits)
-    (λ n8. by-test (eqb n 9) (λ q. (bytes a b c 0 0 (at 9 a b c d e f (eqb-true n 9 q) t)).a-fits)
-    (λ n9. by-test (eqb n 10) (λ q. (bytes a b c 0 0 (at 10 a b c d e f (eqb-true n 10 q) t)).a-fits)
-    (λ n10. by-test (eqb n 11) (λ q. (bytes a b c 0 0 (at 11 a b c d e f (eqb-true n 11 q) t)).a-fits)
-    (λ n11. by-test (eqb n 12) (λ q. (bytes a b 0 0 0 (at 12 a b c d e f (eqb-true n 12 q) t)).a-fits)
-    (λ n12. by-test (eqb n 13) (λ q. (bytes a b 0 0 0 (at 13 a b c d e f (eqb-true n 13 q) t)).a-fits)
+    by_test (eqb n 8) (λ q. (bytes a b c 0 0 (at 8 a b c d e f (eqb-true n 8 q) t)).a-fits)
+    (λ n8. by_test (eqb n 9) (λ q. (bytes a b c 0 0 (at 9 a b c d e f (eqb-true n 9 q) t)).a-fits)
+    (λ n9. by_test (eqb n 10) (λ q. (bytes a b c 0 0 (at 10 a b c d e f (eqb-true n 10 q) t)).a-fits)
+    (λ n10. by_test (eqb n 11) (λ q. (bytes a b c 0 0 (at 11 a b c d e f (eqb-true n 11 q) t)).a-fits)
+    (λ n11. by_test (eqb n 12) (λ q. (bytes a b 0 0 0 (at 12 a b c d e f (eqb-true n 12 q) t)).a-fits)
+    (λ n12. by_test (eqb n 13) (λ q. (bytes a b 0 0 0 (at 13 a b c d e f (eqb-true n 13 q) t)).a-fits)
     (λ n13.
     let q = is_bend n a b c d e f h (eqb-false n 8 n8) (eqb-false n 9 n9) (eqb-false n 10 n10) (eqb-false n 11 n11) (eqb-false n 12 n12) (eqb-false n 13 n13) t in
     ltb-true a 256 (both (ltb b 65536) (ltb a 256) (at 14 a b c d e f q t)).1))))))
@@ -78,7 +78,7 @@ is_text_lem n a b c d e f h f0 f7 n0 n20 n21 n2F n51 n54 n58 n59 n7F n200 t =
 pub text_range : (n : ℕ) → is_text (n - 0x100) ≡ true → (0x101 ≤ n) × (n ≤ 0x109)
 unfolding is_text
 text_range n t =
-    by-test (leb 1 (n - 0x100)) (λ q. let r = leb-true (n - 0x100) 9 (rw q at t) in (omega (arith, leb-true 1 (n - 0x100) q), omega arith))
+    by_test (leb 1 (n - 0x100)) (λ q. let r = leb-true (n - 0x100) 9 (rw q at t) in (omega (arith, leb-true 1 (n - 0x100) q), omega arith))
     (λ q. absurd (true≢false (sym t ∙ rw q)))
 
 -- an SMPTE time's

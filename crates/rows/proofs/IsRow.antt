@@ -20,9 +20,9 @@ module _ (r : List ℕ) (l : length r ≡ width) where
   delta_above h = rw (le-leb width (length r) (omega arith), le-ltb (cell r 0) (2 ^ 32) h)
 
   module _ (h : cell r 0 < 2 ^ 32) where
-    pub fields-above : fields_fit (cell r 1) (cell r 2) (cell r 3) (cell r 4) (cell r 5) (cell r 6) (cell r 7) ≡ false → refuses 18 ≡ event_of_row r
+    pub fields_above : fields_fit (cell r 1) (cell r 2) (cell r 3) (cell r 4) (cell r 5) (cell r 6) (cell r 7) ≡ false → refuses 18 ≡ event_of_row r
     unfolding event_of_row is_row
-    fields-above f = rw (le-leb width (length r) (omega arith), lt-ltb (cell r 0) (2 ^ 32) h, f)
+    fields_above f = rw (le-leb width (length r) (omega arith), lt-ltb (cell r 0) (2 ^ 32) h, f)
 
     pub all_fit : fields_fit (cell r 1) (cell r 2) (cell r 3) (cell r 4) (cell r 5) (cell r 6) (cell r 7) ≡ true → gives (called_row r) ≡ event_of_row r
     unfolding event_of_row is_row

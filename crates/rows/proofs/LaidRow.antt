@@ -20,15 +20,15 @@ module _ (cells : List ℕ) (at : ℕ) (row : List ℕ) where
 
   module _ (there : at + width ≤ length cells) (whole : length row ≡ width) {rows : List ℕ} {i : ℕ} (l : Laid rows i) where
     -- the cells stay as many
-    pub laid-length : length rows ≡ length cells
-    laid-length = ap length l.front ∙ length-paste cells at row i (omega (arith, l.within)) (omega (arith, l.within))
+    pub laid_length : length rows ≡ length cells
+    laid_length = ap length l.front ∙ length-paste cells at row i (omega (arith, l.within)) (omega (arith, l.within))
 
     pub laid_more : i < width → Laid (set rows (at + i) (get_or row i 0)) (i + 1)
     laid_more more =
         record { within = omega arith; front = rw (add-one i, l.front) (paste-suc cells at row i 0 (omega arith) (omega arith)) }
 
-    pub laid-all : width ≤ i → rows ≡ over row cells at
-    laid-all last =
+    pub laid_all : width ≤ i → rows ≡ over row cells at
+    laid_all last =
         let all : i ≡ width = omega (arith, l.within) in
         let itself : take width row ≡ row = ap (λ (n : ℕ). take n row) (sym whole) ∙ take-length row in
         l.front ∙ rw all (pasted cells at row width (omega arith)) ∙ ap (λ (r : List ℕ). over r cells at) itself

@@ -78,11 +78,11 @@ module _ (rules : Rules) (cap : ℕ) (s : List ℕ) (r : Reader) where
       (λ u. event_known (omega (arith, leb-false cap r.count u)) (read_event rules r.running (drop r.place s)) refl))
 
   module _ {e : Event Span} {padding : ℕ} {r' : Reader} (q : next_at rules cap s r ≡ takes e padding r') where
-    pub next-room : r.count < cap
-    next-room = (subst Known q next_known).0
+    pub next_room : r.count < cap
+    next_room = (subst Known q next_known).0
 
-    pub next-runs : is_running r'.running ≡ true
-    next-runs = (subst Known q next_known).1
+    pub next_runs : is_running r'.running ≡ true
+    next_runs = (subst Known q next_known).1
 
 pub record Laying (cap : ℕ) (rules : Rules) (s : List ℕ) (at first : ℕ) (before out : List ℕ) (padding : ℕ) (r : Reader) : Type 0 where
   pub events : List (Event Span)
@@ -110,12 +110,12 @@ module _ {cap : ℕ} {rules : Rules} {s : List ℕ} {at first : ℕ} {before out
   laid e = rw (all g.sofar e, ← put_fits (sheet_of g.events) before 0 fits, g.sofar.counted, g.rows)
 
   module _ {own : Event Span} {more : ℕ} {r' : Reader} (e : next_at rules cap s r ≡ takes own more r') where
-    pub laying-more : (end : List ℕ) → end ≡ over (event_row own) out (r.count * width) → Laying cap rules s at first before end (padding + more) r'
-    laying-more end put =
+    pub laying_more : (end : List ℕ) → end ≡ over (event_row own) out (r.count * width) → Laying cap rules s at first before end (padding + more) r'
+    laying_more end put =
         record {
           events = g.events ++ (own ∷ []);
           sofar = again g.sofar e;
-          runs = next-runs rules cap s r e;
+          runs = next_runs rules cap s r e;
           rows =
               put
               ∙ ap (λ (l : List ℕ). over (event_row own) l (r.count * width)) g.rows

@@ -17,10 +17,10 @@ use Rattle.smf.specs.Wire.{Delta, data_length, read_body}
 use Rattle.smf.specs.Kind.{message_one, message_two}
 use Rattle.smf.specs.Event.{placed, name_raw, event_at}
 use Rattle.smf.specs.Lists.{Reader, full, takes, stops, step_on, next_at}
-use Rattle.smf.proofs.Answer.{by-test, by-lt}
+use Rattle.smf.proofs.Answer.{by_test, by_lt}
 use Rattle.smf.proofs.Number.{encode_one}
 use Rattle.smf.proofs.Place.{Sited, site_begun, site_next, number_placed_lem}
-use Rattle.smf.proofs.Reading.{message_with, one_or_two, data_one, data-two, body_status, body_running, status_channel, running_channel, event-body}
+use Rattle.smf.proofs.Reading.{message_with, one_or_two, data_one, data_two, body_status, body_running, status_channel, running_channel, event_body}
 use Rattle.smf.proofs.Steps.{event_within_lem}
 use Rattle.rows.specs.Rows.{row, midi_row}
 use Rattle.rows.specs.Short.{short_event, DataRead, ShortRead}
@@ -29,14 +29,14 @@ use Rattle.rows.specs.Short.{short_event, DataRead, ShortRead}
 pub one_byte : (status : ℕ) → status / 32 ≡ 6 → data_length status ≡ 1
 unfolding data_length
 one_byte status h =
-    by-test (eqb (status / 16) 0xC) (λ t. rw t)
-    (λ t. by-test (eqb (status / 16) 0xD) (λ u. rw (t, u)) (λ u. absurd (omega (arith, eqb-false (status / 16) 0xC t, eqb-false (status / 16) 0xD u))))
+    by_test (eqb (status / 16) 0xC) (λ t. rw t)
+    (λ t. by_test (eqb (status / 16) 0xD) (λ u. rw (t, u)) (λ u. absurd (omega (arith, eqb-false (status / 16) 0xC t, eqb-false (status / 16) 0xD u))))
 
 pub two_bytes : (status : ℕ) → (status / 32 ≡ 6 → ⊥) → data_length status ≡ 1 → ⊥
 unfolding data_length
 two_bytes status h =
-    by-test (eqb (status / 16) 0xC) (λ t e. h (omega (arith, eqb-true (status / 16) 0xC t)))
-    (λ t. by-test (eqb (status / 16) 0xD) (λ u e. h (omega (arith, eqb-true (status / 16) 0xD u))) (λ u e. let z : 2 ≡ 1 = rw (t, u) at e in omega (arith, z)))
+    by_test (eqb (status / 16) 0xC) (λ t e. h (omega (arith, eqb-true (status / 16) 0xC t)))
+    (λ t. by_test (eqb (status / 16) 0xD) (λ u e. h (omega (arith, eqb-true (status / 16) 0xD u))) (λ u e. let z : 2 ≡ 1 = rw (t, u) at e in omega (arith, z)))
 
 module _ (s : List ℕ) (at place status : ℕ) (fits : place + 2 ≤ length s) (a : get_or s place 0 < 0x80) where
   enough : data_length status ≤ length s - place
@@ -55,7 +55,7 @@ module _ (s : List ℕ) (at place status : ℕ) (fits : place + 2 ≤ length s) 
       record {
         same = refl;
         single = λ n. absurd (h n);
-        read = λ rules delta site. data-two rules s at place status delta site enough (two_bytes status h) a b;
+        read = λ rules delta site. data_two rules s at place status delta site enough (two_bytes status h) a b;
       }
 
 module _ (s : List ℕ) (at running : ℕ) (valid : is_running running ≡ true) (fits : at + 4 ≤ length s) (small : get_or s at 0 < 0x80) where
@@ -72,14 +72,14 @@ module _ (s : List ℕ) (at running : ℕ) (valid : is_running running ≡ true)
 
   body : (rules : Rules) → (placed s at (name_raw rules (read_body rules running delta (drop (at + 1) s))) ≡ event_at rules running s at) × Sited s at (at + 1)
   body rules =
-      let b = event-body rules running s at valid (number_placed_lem rules s at (delta_read_lem rules) (site_next s at at (omega arith) (site_begun s at))) in
+      let b = event_body rules running s at valid (number_placed_lem rules s at (delta_read_lem rules) (site_next s at at (omega arith) (site_begun s at))) in
       let none : at + 1 - at - length (encode_number (get_or s at 0)) ≡ 0 = omega (arith, encode_one (get_or s at 0) small) in
       (rw none at b.0, b.1)
 
   module _ {used st a b : ℕ} where
     -- with a status byte of its own
-    pub short-own : 0x80 ≤ get_or s (at + 1) 0 → get_or s (at + 1) 0 < 0xF0 → DataRead s at (at + 2) (get_or s (at + 1) 0) used st a b → ShortRead s at running used st a b
-    short-own h g d =
+    pub short_own : 0x80 ≤ get_or s (at + 1) 0 → get_or s (at + 1) 0 < 0xF0 → DataRead s at (at + 2) (get_or s (at + 1) 0) used st a b → ShortRead s at running used st a b
+    short_own h g d =
         let two : at + 1 + 1 ≡ at + 2 = omega arith in
         record {
           there = omega arith;
@@ -92,8 +92,8 @@ module _ (s : List ℕ) (at running : ℕ) (valid : is_running running ≡ true)
         }
 
     -- under the running status
-    pub short-under : get_or s (at + 1) 0 < 0x80 → (running ≡ 0 → ⊥) → DataRead s at (at + 1) running used st a b → ShortRead s at running used st a b
-    short-under h z d =
+    pub short_under : get_or s (at + 1) 0 < 0x80 → (running ≡ 0 → ⊥) → DataRead s at (at + 1) running used st a b → ShortRead s at running used st a b
+    short_under h z d =
         let bounds = running_channel running valid z in
         record {
           there = omega arith;
@@ -124,12 +124,12 @@ module _ (channel status a b : ℕ) where
   pub row_data : 0x80 ≤ status → status < 0xF0 → (status / 16 ≡ 14 → ⊥) → (status / 32 ≡ 6 → b ≡ 0) → cells ≡ row (status / 16) channel a b 0 0 0
   row_data low high bend single =
       let n = status / 16 in
-      by-lt n 9 (λ lt. two_data (inl (inl (omega arith))))
-      (λ g. by-lt n 10 (λ lt. two_data (inl (inr (omega arith))))
-      (λ h. by-lt n 11 (λ lt. two_data (inr (inl (omega arith))))
-      (λ i. by-lt n 12 (λ lt. two_data (inr (inr (omega arith))))
-      (λ j. by-lt n 13 (λ lt. one_data (inl (omega arith)) (single (omega arith)))
-      (λ k. by-lt n 14 (λ lt. one_data (inr (omega arith)) (single (omega arith)))
+      by_lt n 9 (λ lt. two_data (inl (inl (omega arith))))
+      (λ g. by_lt n 10 (λ lt. two_data (inl (inr (omega arith))))
+      (λ h. by_lt n 11 (λ lt. two_data (inr (inl (omega arith))))
+      (λ i. by_lt n 12 (λ lt. two_data (inr (inr (omega arith))))
+      (λ j. by_lt n 13 (λ lt. one_data (inl (omega arith)) (single (omega arith)))
+      (λ k. by_lt n 14 (λ lt. one_data (inr (omega arith)) (single (omega arith)))
       (λ l. absurd (bend (omega arith))))))))
 
 -- As a step of a list

@@ -9,7 +9,7 @@ use Rattle.smf.specs.Answer.{Answer, gives, refuses}
 use Rattle.smf.specs.Place.{Span}
 use Rattle.smf.specs.Event.{Event, Same}
 use Rattle.smf.specs.Lists.{Counted, SameList}
-use Rattle.smf.proofs.Answer.{by-test}
+use Rattle.smf.proofs.Answer.{by_test}
 use Rattle.rows.specs.RowEvent.{is_row, called_row, event_of_row}
 use Rattle.rows.specs.RowLists.{are_rows}
 use Rattle.rows.proofs.IsRow.{is_event, is_none}
@@ -24,12 +24,12 @@ module _ (a b : List ℕ) where
 
   pub second_no_row : {n : ℕ} → event_of_row b ≡ refuses n → rows_asked a b ≡ refuses n
   unfolding rows_asked
-  second_no_row h = rw ((is_none b h).0, (is_none b h).1) (by-test (is_row a) (λ e. rw e) (λ e. rw e))
+  second_no_row h = rw ((is_none b h).0, (is_none b h).1) (by_test (is_row a) (λ e. rw e) (λ e. rw e))
 
   module _ {e f : Event Span} (p : event_of_row a ≡ gives e) (q : event_of_row b ≡ gives f) where
-    pub both-rows : rows_asked a b ≡ gives tt
+    pub both_rows : rows_asked a b ≡ gives tt
     unfolding rows_asked
-    both-rows = rw ((is_event a p).0, (is_event b q).0)
+    both_rows = rw ((is_event a p).0, (is_event b q).0)
 
     pub rows_tell : (s t : List ℕ) (r : Bool) → Tells r (Same s e t f) → Tells r (Same s (called_row a) t (called_row b))
     rows_tell s t r told = rw ((is_event a p).1, (is_event b q).1) told
@@ -59,20 +59,20 @@ module _ (most : ℕ) (a : List ℕ) (m : ℕ) (b : List ℕ) (n : ℕ) where
 
   pub second_many : most < n → lists_asked most a m b n ≡ refuses 21
   unfolding lists_asked
-  second_many h = rw (lt-leb n most h) (by-test (leb m most) (λ e. rw e) (λ e. rw e))
+  second_many h = rw (lt-leb n most h) (by_test (leb m most) (λ e. rw e) (λ e. rw e))
 
   module _ (p : m ≤ most) (q : n ≤ most) where
-    pub first-no-rows : are_rows m a ≡ false → lists_asked most a m b n ≡ refuses 18
+    pub first_no_rows : are_rows m a ≡ false → lists_asked most a m b n ≡ refuses 18
     unfolding lists_asked
-    first-no-rows h = rw (le-leb m most p, le-leb n most q, h)
+    first_no_rows h = rw (le-leb m most p, le-leb n most q, h)
 
-    pub second-no-rows : are_rows n b ≡ false → lists_asked most a m b n ≡ refuses 18
+    pub second_no_rows : are_rows n b ≡ false → lists_asked most a m b n ≡ refuses 18
     unfolding lists_asked
-    second-no-rows h = rw (le-leb m most p, le-leb n most q, h) (by-test (are_rows m a) (λ e. rw e) (λ e. rw e))
+    second_no_rows h = rw (le-leb m most p, le-leb n most q, h) (by_test (are_rows m a) (λ e. rw e) (λ e. rw e))
 
-    pub all-rows : are_rows m a ≡ true → are_rows n b ≡ true → lists_asked most a m b n ≡ gives tt
+    pub all_rows : are_rows m a ≡ true → are_rows n b ≡ true → lists_asked most a m b n ≡ gives tt
     unfolding lists_asked
-    all-rows f g = rw (le-leb m most p, le-leb n most q, f, g)
+    all_rows f g = rw (le-leb m most p, le-leb n most q, f, g)
 
 -- lists of other counts differ
 pub counts_apart : (s : List ℕ) (es : List (Event Span)) (m : ℕ) (t : List ℕ) (fs : List (Event Span)) (n : ℕ) → (m ≡ n → ⊥) → SameList s es m t fs n → ⊥

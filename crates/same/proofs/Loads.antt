@@ -8,7 +8,7 @@ use native.Mathlib.Omega.{arith}
 use lib.ListN.{length, take, drop, get_or, length-take, length-drop}
 use lib.Seq.{length-take-le, take-suc, take_all, take-length, get_or-take, get_or-drop}
 use Rattle.smf.specs.Place.{bytes_of}
-use Rattle.smf.proofs.Answer.{by-lt}
+use Rattle.smf.proofs.Answer.{by_lt}
 use Rattle.same.specs.Same.{Tells, span}
 use Rattle.same.proofs.SameTests.{tells_too}
 
@@ -37,7 +37,7 @@ unfolding bytes_of
 cut s start size n e =
     let d = drop start s in
     rw e
-    (by-lt (length d) size
+    (by_lt (length d) size
     (λ h. let all : length (take size d) ≡ length d = omega (arith, length-take size d) in ap (λ (n : ℕ). take n d) all ∙ take-length d ∙ sym (take_all size d (omega arith)))
     (λ h. ap (λ (n : ℕ). take n d) (length-take-le size d h)))
 

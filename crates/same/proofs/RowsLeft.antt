@@ -45,9 +45,9 @@ module _ (s a t b : List ℕ) where
   compared_first count p q = record { within = omega arith; first_rows = p; second-rows = q; to = λ h. h; from = λ h. h }
 
   module _ {count at left : ℕ} (g : Compared count at left) where
-    pub compared-last : left ≤ 0 → SameRows count
+    pub compared_last : left ≤ 0 → SameRows count
     unfolding called_rows
-    compared-last h =
+    compared_last h =
         let e : left ≡ 0 = omega arith in
         let none : Alike left (drop at a) (drop at b) = rw e refl in
         as_lists count (g.to none)
@@ -87,8 +87,8 @@ module _ (s a t b : List ℕ) where
       together : SameHere → Ahead → Alike count a b
       together p q = g.to (rw (records_on a at more, records_on b at more) (ap₂ (λ (x : Event (List ℕ)) (l : List (Event (List ℕ))). x ∷ l) p q))
 
-      pub compared-more : SameGiven s (event_of_row ra) t (event_of_row rb) → Compared count (at + width) (left - 1)
-      compared-more h =
+      pub compared_more : SameGiven s (event_of_row ra) t (event_of_row rb) → Compared count (at + width) (left - 1)
+      compared_more h =
           record {
             within = omega (arith, g.within);
             first_rows = first.1;
@@ -97,5 +97,5 @@ module _ (s a t b : List ℕ) where
             from = λ q. (apart q).1;
           }
 
-      pub compared-differ : (SameGiven s (event_of_row ra) t (event_of_row rb) → ⊥) → SameRows count → ⊥
-      compared-differ differ same = differ (given (apart (as_rows count same)).0)
+      pub compared_differ : (SameGiven s (event_of_row ra) t (event_of_row rb) → ⊥) → SameRows count → ⊥
+      compared_differ differ same = differ (given (apart (as_rows count same)).0)

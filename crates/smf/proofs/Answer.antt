@@ -8,17 +8,17 @@ use borrow.Author.Tests.{ltb-true, ltb-false}
 use Rattle.smf.specs.Answer.{pick, Answer, gives, refuses, unless, and_then, Rules, strictly, leniently}
 
 -- by the value of a test
-pub by-test {ℓ} : {G : Type ℓ} (t : Bool) → (t ≡ true → G) → (t ≡ false → G) → G
-by-test true f g = f refl
-by-test false f g = g refl
+pub by_test {ℓ} : {G : Type ℓ} (t : Bool) → (t ≡ true → G) → (t ≡ false → G) → G
+by_test true f g = f refl
+by_test false f g = g refl
 
 -- by what an answer is
 pub by_answer {ℓ} : {A : Type 0} {G : Type ℓ} (a : Answer A) → ((x : A) → a ≡ gives x → G) → ((n : ℕ) → a ≡ refuses n → G) → G
 by_answer (gives x) f g = f x refl
 by_answer (refuses n) f g = g n refl
 
-pub by-lt {ℓ} : {G : Type ℓ} (a b : ℕ) → (a < b → G) → (b ≤ a → G) → G
-by-lt a b f g = by-test (ltb a b) (λ e. f (ltb-true a b e)) (λ e. g (ltb-false a b e))
+pub by_lt {ℓ} : {G : Type ℓ} (a b : ℕ) → (a < b → G) → (b ≤ a → G) → G
+by_lt a b f g = by_test (ltb a b) (λ e. f (ltb-true a b e)) (λ e. g (ltb-false a b e))
 
 -- what holds of both choices, each knowing its test, holds of the pick
 pub pick_test : {A : Type 0} (P : A → Type 0) (t : Bool) {x y : A} → (t ≡ true → P x) → (t ≡ false → P y) → P (pick t x y)

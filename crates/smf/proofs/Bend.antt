@@ -10,7 +10,7 @@ use lib.Ieee.{Format, nan, fin, mul, of_int}
 use borrow.Author.Tests.{ltb-false, lt-ltb, le-ltb}
 use Rattle.smf.specs.Answer.{gives, refuses}
 use Rattle.smf.specs.Bend.{lowest, highest, bend_of, clamped, raw_bend, ask_bend, scaled, raw_bend_of_float, quotient, ask_float, GivesQuotient}
-use Rattle.smf.proofs.Answer.{by-lt, pick_test}
+use Rattle.smf.proofs.Answer.{by_lt, pick_test}
 use Rattle.smf.proofs.Width.{try_in, try_out}
 use Rattle.smf.proofs.BendFloat.{one, step, quotient_is, quotient_exact, scaled_quotient}
 
@@ -30,7 +30,7 @@ clamped_same (negsuc n) h = rw (le-ltb 8191 n (omega arith))
 
 -- a - b is within m where a is below b + m, and b is not above m
 sub_mag : (a b m : ℕ) → a < b + m → b ≤ m → mag (sub_ℕ a b) < m
-sub_mag a b m h k = by-lt a b (λ p. rw (lt-ltb a b p) (omega arith)) (λ p. rw (le-ltb a b p) (omega arith))
+sub_mag a b m h k = by_lt a b (λ p. rw (lt-ltb a b p) (omega arith)) (λ p. rw (le-ltb a b p) (omega arith))
 
 -- a raw bend is a signed one
 pub bend_mag : (raw : ℕ) → raw < 2 ^ 14 → mag (bend_of raw) < 8192
@@ -76,7 +76,7 @@ ask_out raw h = rw (sym (try_out 14 h))
 -- what is given is the signed bend of a raw one
 pub asked : (raw : ℕ) (z : ℤ) → gives z ≡ ask_bend raw → (raw < 2 ^ 14) × (z ≡ bend_of raw)
 asked raw z e =
-    by-lt raw (2 ^ 14) (λ h. (h, cc (ask_in raw h)))
+    by_lt raw (2 ^ 14) (λ h. (h, cc (ask_in raw h)))
     (λ h. let clash : ◌≡◌ {A = ℕ} 0 1 = cc (ask_out raw h) in absurd (omega arith))
 
 -- .. and so within its bounds
@@ -96,7 +96,7 @@ ask_float_out f raw n e = rw (sym e)
 
 pub ask_exact : (f : Format) (raw : ℕ) → GivesQuotient raw (ask_float f raw)
 unfolding ask_float GivesQuotient
-ask_exact f raw = by-lt raw (2 ^ 14)
+ask_exact f raw = by_lt raw (2 ^ 14)
     (λ h. rw (sym (ask_in raw h)) (quotient_exact f (bend_of raw) (bend_mag raw h)))
     (λ h. rw (sym (ask_out raw h)) tt)
 

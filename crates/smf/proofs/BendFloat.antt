@@ -17,7 +17,7 @@ use lib.Ieee.Scale.{round_same}
 use borrow.Author.Tests.{ltb-true, ltb-false}
 use Rattle.smf.specs.Answer.{pick}
 use Rattle.smf.specs.Bend.{signed, scaled, quotient, IsQuotient}
-use Rattle.smf.proofs.Answer.{by-lt}
+use Rattle.smf.proofs.Answer.{by_lt}
 
 -- ---- to a float
 
@@ -119,7 +119,7 @@ fits_says f s (suc m) e t =
 place : (l : ℕ) (e : ℤ) → down e ≤ 2 ^ l → (j : ℕ) × (up e * 2 ^ l ≡ 2 ^ j * down e)
 place l (pos k) h = (k + l, sym (pow-add 2 k l) ∙ sym (mul-one (2 ^ (k + l))))
 place l (negsuc k) h =
-    let h' : suc k ≤ l = by-lt l (suc k) (λ p. absurd (omega (arith, pow-lt p, h))) (λ p. p) in
+    let h' : suc k ≤ l = by_lt l (suc k) (λ p. absurd (omega (arith, pow-lt p, h))) (λ p. p) in
     (l - suc k, one-mul (2 ^ l) ∙ ap (λ (x : ℕ). 2 ^ x) (omega arith) ∙ pow-add 2 (l - suc k) (suc k))
 
 -- within -1..1 a float times 8,192 is exact

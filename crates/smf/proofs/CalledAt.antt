@@ -127,9 +127,9 @@ module _ (rules : Rules) (s : List ℕ) (small : (i : ℕ) → get_or s i 0 < 25
     pub enough : n ≤ span.length → (m : Meta (List ℕ)) → kind ≡ gives m → told (map_meta (λ q. span) m) ≡ called_at rules s t load
     enough h m e = called_is t m (long h ∙ e)
 
-    pub enough-refused : n ≤ span.length → (k : ℕ) → kind ≡ refuses k → refuses k ≡ called_at rules s t load
+    pub enough_refused : n ≤ span.length → (k : ℕ) → kind ≡ refuses k → refuses k ≡ called_at rules s t load
     unfolding called_at
-    enough-refused h k e = rw (long h, e)
+    enough_refused h k e = rw (long h, e)
 
   -- a type whose first byte is narrow
   module _ (t limit : ℕ) (of : ℕ → Meta (List ℕ))
@@ -141,11 +141,11 @@ module _ (rules : Rules) (s : List ℕ) (small : (i : ℕ) → get_or s i 0 < 25
     pub fits_low : get_or s span.start 0 < limit → told (map_meta (λ q. span) (of (get_or s span.start 0))) ≡ called_at rules s t load
     fits_low h = enough t 1 _ form some (of (get_or s span.start 0)) (rw (first, narrow_low rules limit (get_or s span.start 0) h))
 
-    pub fits-lenient : limit ≤ get_or s span.start 0 → rules.strict ≡ false → told (map_meta (λ q. span) (of (get_or s span.start 0 % limit))) ≡ called_at rules s t load
-    fits-lenient h l = enough t 1 _ form some (of (get_or s span.start 0 % limit)) (rw (first, narrow_lenient rules limit (get_or s span.start 0) h l))
+    pub fits_lenient : limit ≤ get_or s span.start 0 → rules.strict ≡ false → told (map_meta (λ q. span) (of (get_or s span.start 0 % limit))) ≡ called_at rules s t load
+    fits_lenient h l = enough t 1 _ form some (of (get_or s span.start 0 % limit)) (rw (first, narrow_lenient rules limit (get_or s span.start 0) h l))
 
-    pub fits-strict : limit ≤ get_or s span.start 0 → rules.strict ≡ true → refuses 12 ≡ called_at rules s t load
-    fits-strict h l = enough-refused t 1 _ form some 12 (rw (first, narrow_strict rules limit (get_or s span.start 0) h l))
+    pub fits_strict : limit ≤ get_or s span.start 0 → rules.strict ≡ true → refuses 12 ≡ called_at rules s t load
+    fits_strict h l = enough_refused t 1 _ form some 12 (rw (first, narrow_strict rules limit (get_or s span.start 0) h l))
 
   -- the kinds that look at several bytes
 
@@ -187,9 +187,9 @@ module _ (rules : Rules) (s : List ℕ) (small : (i : ℕ) → get_or s i 0 < 25
     answered : time_in rules (bytes_of s span) ≡ a
     answered = rw (part_first (omega arith), part_byte 1 (omega arith), part_byte 2 (omega arith), part_byte 3 (omega arith), part_byte 4 (omega arith)) (sym e)
 
-    pub called-time : {t : Time} → a ≡ gives t → told (smpte_offset t) ≡ called_at rules s 0x54 load
+    pub called_time : {t : Time} → a ≡ gives t → told (smpte_offset t) ≡ called_at rules s 0x54 load
     unfolding map_meta
-    called-time {t} q = enough 0x54 5 _ (form_smpte rules (bytes_of s span)) h (smpte_offset t) (rw (answered, q))
+    called_time {t} q = enough 0x54 5 _ (form_smpte rules (bytes_of s span)) h (smpte_offset t) (rw (answered, q))
 
-    pub called-no-time : {n : ℕ} → a ≡ refuses n → refuses n ≡ called_at rules s 0x54 load
-    called-no-time {n} q = enough-refused 0x54 5 _ (form_smpte rules (bytes_of s span)) h n (rw (answered, q))
+    pub called_no_time : {n : ℕ} → a ≡ refuses n → refuses n ≡ called_at rules s 0x54 load
+    called_no_time {n} q = enough_refused 0x54 5 _ (form_smpte rules (bytes_of s span)) h n (rw (answered, q))

@@ -10,7 +10,7 @@ use borrow.Author.Tests.{ltb-true, lt-ltb, le-ltb}
 use Rattle.smf.specs.Answer.{Answer, gives, refuses, and_then}
 use Rattle.smf.specs.Smpte.{is_rate, to_rate}
 use Rattle.smf.specs.Header.{read_field, word, two_bytes_of, is_format, to_format, read_format, format_bytes, Timing, metrical, timecode, is_timing, timing_from, read_timing, timing_bytes, encode_timing}
-use Rattle.smf.proofs.Answer.{by-test, by-lt, both, given}
+use Rattle.smf.proofs.Answer.{by_test, by_lt, both, given}
 use Rattle.smf.proofs.Smpte.{rate_small}
 
 -- a field by its bytes' places
@@ -125,10 +125,10 @@ module _ (high low : ℕ) (hh : high < 256) (hl : low < 256) where
   pub timing_read_lem : (more : List ℕ) {t : Timing} → read_timing (high ∷ low ∷ more) ≡ gives t → TimingRead high low t
   unfolding read_field read_timing timing_from to_rate
   timing_read_lem more {t} e =
-      by-lt high 128
+      by_lt high 128
       (λ h. let told : gives (metrical (word high low)) ≡ gives t = rw (lt-ltb high 128 h) at e in
       subst (TimingRead high low) (cc) (metrical_read h))
       (λ h. let told = rw (le-ltb high 128 h) at e in
-      by-test (is_rate (256 - high))
+      by_test (is_rate (256 - high))
       (λ is. let same : gives (timecode (256 - high) low) ≡ gives t = rw is at told in subst (TimingRead high low) (cc) (timecode_read h is))
       (λ not. let z : ◌≡◌ {A = ℕ} 0 1 = cc in absurd (omega arith)))

@@ -12,7 +12,7 @@ use Rattle.smf.specs.Place.{Span, place_of, bytes_of}
 use Rattle.smf.specs.Wire.{Taken, Reading, reads, refused}
 use Rattle.smf.specs.Event.{Event, map_event, read_event, EventAt, event_placed, ReadAt, reads_at, refused_at, placed, event_at}
 use Rattle.smf.specs.Lists.{Stop, ended, full, stopped, ListTaken, paddings, ListAt, list_placed, read_more, read_list, events_of, list_at}
-use Rattle.smf.proofs.Answer.{by-lt, pick_test}
+use Rattle.smf.proofs.Answer.{by_lt, pick_test}
 use Rattle.smf.proofs.Place.{Sited, site_begun}
 use Rattle.smf.proofs.Event.{event_read_lem, read_tail, Reached, EventReached, event_reached}
 use Rattle.smf.proofs.Lists.{more_none, more_left, more_read, more_not, list_read, list_alike}
@@ -116,10 +116,10 @@ module _ (rules : Rules) (s : List ℕ) (at : ℕ) where
 
   more_itself : (n running p : ℕ) → Sited s at p → Themselves (read_more rules n running (drop p s))
   more_itself zero running p site =
-      by-lt p (length s) (λ h. rw (more_left rules running (drop p s) (some rules running s at p site h)))
+      by_lt p (length s) (λ h. rw (more_left rules running (drop p s) (some rules running s at p site h)))
       (λ h. let d : drop p s ≡ [] = drop_of_length-le s h in rw (d, more_none rules running zero))
   more_itself (suc n) running p site =
-      by-lt p (length s) (λ h. one_itself n running p site h (more_itself n) (event_at rules running s p) refl)
+      by_lt p (length s) (λ h. one_itself n running p site h (more_itself n) (event_at rules running s p) refl)
       (λ h. let d : drop p s ≡ [] = drop_of_length-le s h in rw (d, more_none rules running (suc n)))
 
 -- what is known of a list that was read at a place: its records are, over the bytes lent, the events that they hold there,

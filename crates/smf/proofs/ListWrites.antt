@@ -80,11 +80,11 @@ module _ (most running : ℕ) (judged : List (Answer (Event (List ℕ)))) (count
     write_full long = rw (is, le-leb _ _ few, legal, check_given 0 es, lt-leb _ _ long)
 
     -- and what makes it accepted
-    pub write-fits : length (encode_list running es) ≤ length buffer
+    pub write_fits : length (encode_list running es) ≤ length buffer
         → write_list most running judged count buffer
         ≡ record { buffer = over (encode_list running es) buffer 0; answer = wrote (length (encode_list running es)); running = list_after running es }
     unfolding write_list write_checked list_put
-    write-fits fits = rw (is, le-leb _ _ few, legal, check_given 0 es, le-leb _ _ fits)
+    write_fits fits = rw (is, le-leb _ _ few, legal, check_given 0 es, le-leb _ _ fits)
 
 -- One event more
 

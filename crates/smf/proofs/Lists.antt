@@ -13,7 +13,7 @@ use Rattle.smf.specs.Running.{is_running}
 use Rattle.smf.specs.Wire.{Taken, taken, Reading, reads, refused, read_raw}
 use Rattle.smf.specs.Event.{Event, name_raw, read_event, encode_event, event_after}
 use Rattle.smf.specs.Lists.{Stop, ended, full, stopped, ListTaken, stops_at, before, go_on, read_more, read_list, events_of, paddings, encode_list, list_after}
-use Rattle.smf.proofs.Answer.{by-test, pick_test}
+use Rattle.smf.proofs.Answer.{by_test, pick_test}
 use Rattle.smf.proofs.Wire.{ReadsAlike}
 use Rattle.smf.proofs.Legal.{is_legal, AllLegal}
 use Rattle.smf.proofs.Event.{event_reads_back, event_read_lem, read_tail, event_alike}
@@ -210,7 +210,7 @@ module _ (rules : Rules) (most running : ℕ) (s : List ℕ) where
   -- a list is read to the end only from a running status
   pub list_valid : list.stop ≡ ended → is_running running ≡ true
   unfolding read_list
-  list_valid e = by-test (is_running running) (λ is. is) (λ is. let q : stopped 1 ≡ ended = rw is at e in let z : ◌≡◌ {A = ℕ} 0 1 = cc in absurd (omega arith))
+  list_valid e = by_test (is_running running) (λ is. is) (λ is. let q : stopped 1 ≡ ended = rw is at e in let z : ◌≡◌ {A = ℕ} 0 1 = cc in absurd (omega arith))
 
   -- why it stopped
   pub list_ended : list.stop ≡ ended → list.rest ≡ []
@@ -246,4 +246,4 @@ module _ (rules : Rules) where
 
   pub list_alike : (most running : ℕ) (s : List ℕ) → (Refuses (read_list rules most running s) → ⊥) → read_list (leniently rules) most running s ≡ read_list rules most running s
   unfolding read_list
-  list_alike most running s not = by-test (is_running running) (λ is. rw is (more_alike most running s (rw is at not))) (λ is. rw is)
+  list_alike most running s not = by_test (is_running running) (λ is. rw is (more_alike most running s (rw is at not))) (λ is. rw is)

@@ -18,7 +18,7 @@ use Rattle.smf.specs.Kind.{Message}
 use Rattle.smf.specs.Kind.{Meta, track_number, no_track_number, text, midi_channel, midi_port, end_of_track, tempo, smpte_offset, sequencer_specific, unknown}
 use Rattle.smf.specs.Kind.{Kind, midi, sys_ex, escape, meta, byte, message_one, message_two, is_text, track_number_of, from, narrow, tempo_of, time_in, signature_of, key_of, called_meta, called, raw_message, raw_meta, raw_of}
 use Rattle.smf.specs.Event.{message_fits, meta_fits, kind_fits, load_or, meta_carries, carries, kind_load, is_named, misnamed, kind_misnamed}
-use Rattle.smf.proofs.Answer.{by-test, by-lt, pick_test, said_of, Alike, Gives, then_gives, alike_self, pick_alike, strictly_alike, then_alike}
+use Rattle.smf.proofs.Answer.{by_test, by_lt, pick_test, said_of, Alike, Gives, then_gives, alike_self, pick_alike, strictly_alike, then_alike}
 use Rattle.smf.proofs.Number.{encode_monotone}
 use Rattle.smf.proofs.Payload.{encode_payload_length}
 use Rattle.smf.proofs.Signed.{signed_low, signed_high}
@@ -58,14 +58,14 @@ module _ (rules : Rules) (status : ℕ) (c : Channel status) where
   one_said a o f =
       pick_test (Says rules status (one status a)) (eqb (status / 16) 0xC)
       (λ e. record { fits = lt-ltb a 128 f; back = ap (λ (n : ℕ). one n a) (upper 0xC e) })
-      (λ n. record { fits = lt-ltb a 128 f; back = ap (λ (n : ℕ). one n a) (upper 0xD (by-test (eqb (status / 16) 0xD) (λ e. e) (λ g. absurd (true≢false (sym (rw (n, g) at o)))))) })
+      (λ n. record { fits = lt-ltb a 128 f; back = ap (λ (n : ℕ). one n a) (upper 0xD (by_test (eqb (status / 16) 0xD) (λ e. e) (λ g. absurd (true≢false (sym (rw (n, g) at o)))))) })
 
   -- neither C nor D, which take one
   takes_two : takes_one status ≡ false → (eqb (status / 16) 0xC ≡ false) × (eqb (status / 16) 0xD ≡ false)
   unfolding data_length
   takes_two o =
-      by-test (eqb (status / 16) 0xC) (λ e. absurd (true≢false (rw e at o)))
-      (λ n. (n, by-test (eqb (status / 16) 0xD) (λ e. absurd (true≢false (rw (n, e) at o))) (λ m. m)))
+      by_test (eqb (status / 16) 0xC) (λ e. absurd (true≢false (rw e at o)))
+      (λ n. (n, by_test (eqb (status / 16) 0xD) (λ e. absurd (true≢false (rw (n, e) at o))) (λ m. m)))
 
   two_said : (a b : ℕ) → takes_one status ≡ false → a < 0x80 → b < 0x80 → Says rules status (two status a b) (message_two (status / 16) a b)
   unfolding message_two message_fits raw_message
@@ -158,7 +158,7 @@ module _ (rules : Rules) (t : ℕ) (p : List ℕ) where
       needed (signature_of p) 0x58 _ (rw (below 0, below 1, below 2, below 3)) refl refl refl l
 
   sharps_fit : (b : ℕ) → b < 256 → mag (signed_byte b) < 128
-  sharps_fit b h = by-lt b 128 (λ low. rw (signed_low b low) low) (λ high. rw (signed_high b high h) (omega arith))
+  sharps_fit b h = by_lt b 128 (λ low. rw (signed_low b low) low) (λ high. rw (signed_high b high h) (omega arith))
 
   key_named : 2 ≤ length p → MetaNamed (key_of p)
   unfolding meta_fits meta_carries raw_meta

@@ -19,7 +19,7 @@ use Rattle.smf.specs.Wire.{raw_event, Taken, taken, Delta, Reading, reads, refus
 use Rattle.smf.specs.Kind.{Message, Meta, midi, sys_ex, escape, meta, message_one, message_two, called_meta, called}
 use Rattle.smf.specs.Event.{Event, event, map_kind, map_event, named, name_raw, span_before, ReadAt, reads_at, refused_at, placed, read_event, event_at}
 use Rattle.smf.specs.MetaAt.{MetaTaken, meta_named, read_meta_message, MetaAt, meta_placed, meta_at}
-use Rattle.smf.proofs.Answer.{by-test, by-lt, said_of, said_refused}
+use Rattle.smf.proofs.Answer.{by_test, by_lt, said_of, said_refused}
 use Rattle.smf.proofs.Payload.{PayloadLoaded, payload_loaded}
 use Rattle.smf.proofs.Place.{Sited, site_next, Reached, NumberReached, number_reached}
 use Rattle.smf.proofs.MetaAt.{end_of, LoadedAt, PayloadReached, payload_reached}
@@ -41,7 +41,7 @@ channel_length st h g = rw (le-ltb (st / 16) 0x8 (omega arith), lt-ltb (st / 16)
 
 pub one_or_two : (st : ℕ) → (data_length st ≡ 1) ⊎ (data_length st ≡ 2)
 unfolding data_length
-one_or_two st = by-test (eqb (st / 16) 0xC) (λ t. inl (rw t)) (λ t. by-test (eqb (st / 16) 0xD) (λ u. inl (rw (t, u))) (λ u. inr (rw (t, u))))
+one_or_two st = by_test (eqb (st / 16) 0xC) (λ t. inl (rw t)) (λ t. by_test (eqb (st / 16) 0xD) (λ u. inl (rw (t, u))) (λ u. inr (rw (t, u))))
 
 pub data_some : (st : ℕ) → 0 < data_length st
 data_some st = ⊎_elim (λ n. omega arith) (λ n. omega arith) (one_or_two st)
@@ -66,7 +66,7 @@ module _ (rules : Rules) (s : List ℕ) (start at st : ℕ) (delta : Delta) (sit
   unfolding placed name_raw read_one read_two
   data_short h =
       ⊎_elim (λ n. rw (is_one n, drop_of_length-le s {i = at} (omega arith)))
-      (λ n. by-lt at (length s)
+      (λ n. by_lt at (length s)
       (λ g. rw (is_two n, drop-cons s at 0 g, drop_of_length-le s {i = suc at} (omega arith)))
       (λ g. rw (is_two n, drop_of_length-le s {i = at} g)))
       (one_or_two st)
@@ -97,20 +97,20 @@ module _ (rules : Rules) (s : List ℕ) (start at st : ℕ) (delta : Delta) (sit
     two : data_length st ≡ 2
     two = ⊎_elim (λ e. absurd (n e)) (λ e. e) (one_or_two st)
 
-    pub data-more : at + 1 < length s
-    data-more = omega (arith, two)
+    pub data_more : at + 1 < length s
+    data_more = omega (arith, two)
 
-    pub data-second-top : 0x80 ≤ get_or s (at + 1) 0 → refused_at 9 0 st 0 ≡ channelled
+    pub data_second_top : 0x80 ≤ get_or s (at + 1) 0 → refused_at 9 0 st 0 ≡ channelled
     unfolding placed name_raw read_two
-    data-second-top b =
-        let m = data-more in
+    data_second_top b =
+        let m = data_more in
         rw (is_two two, first (omega arith), second (omega arith), lt-ltb (get_or s at 0) 0x80 a, le-ltb (get_or s (at + 1) 0) 0x80 b)
 
-    pub data-two : get_or s (at + 1) 0 < 0x80
+    pub data_two : get_or s (at + 1) 0 < 0x80
         → told (event delta.value (midi (st % 16) (message_with st (get_or s at 0) (get_or s (at + 1) 0)))) (at + 2 - start) st delta.padding ≡ channelled
     unfolding placed name_raw read_two named called map_event map_kind message_with
-    data-two b =
-        let m = data-more in
+    data_two b =
+        let m = data_more in
         let one : Sited s start (at + 1) = site_next s start at (omega arith) site in
         let z : at + 1 + 1 ≡ at + 2 = omega arith in
         let both : Sited s start (at + 2) = rw z at (site_next s start (at + 1) m one) in
@@ -139,15 +139,15 @@ module _ (rules : Rules) (s : List ℕ) (start at st : ℕ) (delta : Delta) (sit
     reached : LoadedAt rules s at load
     reached = said_of (PayloadReached rules s at) (payload_reached rules s at within) e
 
-    pub payload-fits : start ≤ end_of span
-    payload-fits = let l = reached in omega (arith, l.past, site)
+    pub payload_fits : start ≤ end_of span
+    payload_fits = let l = reached in omega (arith, l.past, site)
 
     -- the padding is among the bytes up to there
-    pub payload-padded : at + load.padding ≤ end_of span
-    payload-padded = let l = reached in omega (arith, l.past)
+    pub payload_padded : at + load.padding ≤ end_of span
+    payload_padded = let l = reached in omega (arith, l.past)
 
-    pub payload-inside : end_of span ≤ length s
-    payload-inside = reached.inside
+    pub payload_inside : end_of span ≤ length s
+    payload_inside = reached.inside
 
     -- where the payload ends
     ends : place_of s start (drop (end_of span) s) ≡ end_of span
@@ -162,13 +162,13 @@ module _ (rules : Rules) (s : List ℕ) (start at st : ℕ) (delta : Delta) (sit
     uses : length (drop start s) - length (drop (end_of span) s) ≡ end_of span - start
     uses = omega (arith, ends)
 
-    pub payload-sysEx : st ≡ 0xF0 → told (event delta.value (sys_ex span)) (end_of span - start) 0 (delta.padding + load.padding) ≡ loaded
+    pub payload_sys_ex : st ≡ 0xF0 → told (event delta.value (sys_ex span)) (end_of span - start) 0 (delta.padding + load.padding) ≡ loaded
     unfolding placed name_raw named called map_event map_kind
-    payload-sysEx t = rw (t, reached.read, carried, uses)
+    payload_sys_ex t = rw (t, reached.read, carried, uses)
 
-    pub payload-escape : (st ≡ 0xF0 → ⊥) → told (event delta.value (escape span)) (end_of span - start) 0 (delta.padding + load.padding) ≡ loaded
+    pub payload_escape : (st ≡ 0xF0 → ⊥) → told (event delta.value (escape span)) (end_of span - start) 0 (delta.padding + load.padding) ≡ loaded
     unfolding placed name_raw named called map_event map_kind
-    payload-escape t = rw (reached.read, ne_eqb st 0xF0 t, carried, uses)
+    payload_escape t = rw (reached.read, ne_eqb st 0xF0 t, carried, uses)
 
 -- Meta events
 
@@ -246,13 +246,13 @@ module _ (rules : Rules) (running : ℕ) (delta : Delta) (st : ℕ) (s : List �
   status_payload h = ⊎_elim (λ e. rw e) (λ e. rw e) h
 
   module _ (h : 0xF0 ≤ st) (a : st ≡ 0xFF → ⊥) (b : st ≡ 0xF0 → ⊥) (c : st ≡ 0xF7 → ⊥) where
-    pub status-common : st < 0xF7 → read_status rules running delta st s ≡ refused 6 running
+    pub status_common : st < 0xF7 → read_status rules running delta st s ≡ refused 6 running
     unfolding read_status
-    status-common g = rw (le-ltb st 0xF0 h, ne_eqb st 0xFF a, ne_eqb st 0xF0 b, ne_eqb st 0xF7 c, lt-ltb st 0xF7 g)
+    status_common g = rw (le-ltb st 0xF0 h, ne_eqb st 0xFF a, ne_eqb st 0xF0 b, ne_eqb st 0xF7 c, lt-ltb st 0xF7 g)
 
-    pub status-realtime : 0xF7 ≤ st → read_status rules running delta st s ≡ refused 7 running
+    pub status_realtime : 0xF7 ≤ st → read_status rules running delta st s ≡ refused 7 running
     unfolding read_status
-    status-realtime g = rw (le-ltb st 0xF0 h, ne_eqb st 0xFF a, ne_eqb st 0xF0 b, ne_eqb st 0xF7 c, le-ltb st 0xF7 g)
+    status_realtime g = rw (le-ltb st 0xF0 h, ne_eqb st 0xFF a, ne_eqb st 0xF0 b, ne_eqb st 0xF7 c, le-ltb st 0xF7 g)
 
 -- From behind the delta on
 
@@ -293,16 +293,16 @@ module _ (rules : Rules) (running : ℕ) (s : List ℕ) (at : ℕ) where
   event_invalid h = rw h
 
   module _ (valid : is_running running ≡ true) where
-    pub event-refused : {n : ℕ} → number_at rules s at ≡ refuses n → refused_at n 0 running 0 ≡ event_at rules running s at
+    pub event_refused : {n : ℕ} → number_at rules s at ≡ refuses n → refused_at n 0 running 0 ≡ event_at rules running s at
     unfolding event_at placed read_event name_raw read_raw after_delta
-    event-refused {n} e =
+    event_refused {n} e =
         let r : read_number rules (drop at s) ≡ refuses n = said_refused (NumberReached rules s at) (number_reached rules s at) e in
         rw (valid, r)
 
-    pub event-body : {n : NumberAt} → number_at rules s at ≡ gives n
+    pub event_body : {n : NumberAt} → number_at rules s at ≡ gives n
         → (placed s at (name_raw rules (read_body rules running (record { value = n.value; padding = n.padding }) (drop n.next s))) ≡ event_at rules running s at)
         × Sited s at n.next × (n.padding ≤ n.next)
     unfolding event_at read_event read_raw after_delta
-    event-body {n} e =
+    event_body {n} e =
         let r : Reached rules s at n = said_of (NumberReached rules s at) (number_reached rules s at) e in
         (rw (valid, r.read, r.padded), r.site, omega (arith, r.padded, r.site))

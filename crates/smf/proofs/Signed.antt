@@ -10,7 +10,7 @@ use mir.Syntax.{Width, w8, w16}
 use mir.Val.{SFits, to_z, of_z}
 use mir.ValLaws.{to_z_pos}
 use mir.Facts.{to_z-of_z}
-use Rattle.smf.proofs.Answer.{by-lt}
+use Rattle.smf.proofs.Answer.{by_lt}
 use Rattle.smf.specs.Signed.{signed_byte, byte_of_signed}
 
 -- a difference that is below 0
@@ -34,7 +34,7 @@ signed_high b low high = rw (le-ltb b 128) (less_256 b high)
 -- the byte of a byte's signed number is the byte
 pub byte_back : (b : ℕ) → b < 256 → byte_of_signed (signed_byte b) ≡ b
 unfolding byte_of_signed
-byte_back b h = by-lt b 128 (λ low. ap byte_of_signed (signed_low b low)) (λ high. ap byte_of_signed (signed_high b high h) ∙ omega arith)
+byte_back b h = by_lt b 128 (λ low. ap byte_of_signed (signed_low b low)) (λ high. ap byte_of_signed (signed_high b high h) ∙ omega arith)
 
 -- the signed number of a signed number's byte is the number
 pub signed_back : (z : ℤ) → mag z < 128 → signed_byte (byte_of_signed z) ≡ z

@@ -11,20 +11,20 @@ use lib.ListN.{length, get_or}
 use borrow.Author.Tests.{ltb-true, ltb-false, lt-ltb, le-ltb, eqb-true, eqb-false, eq-eqb, ne_eqb}
 use Rattle.smf.specs.Answer.{pick, Answer, gives, Rules}
 use Rattle.smf.specs.Smpte.{is_rate, rate_of_code, code_of_rate, Time, time, is_time, to_time, time_of, time_bytes, seconds, frames, subframes, position}
-use Rattle.smf.proofs.Answer.{by-test, by-lt, pick_test, both, given}
+use Rattle.smf.proofs.Answer.{by_test, by_lt, pick_test, both, given}
 
 -- what holds of the four rates holds of every rate
-pub by-rate {ℓ} : (P : ℕ → Type ℓ) → P 24 → P 25 → P 29 → P 30 → (rate : ℕ) → is_rate rate ≡ true → P rate
+pub by_rate {ℓ} : (P : ℕ → Type ℓ) → P 24 → P 25 → P 29 → P 30 → (rate : ℕ) → is_rate rate ≡ true → P rate
 unfolding is_rate
-by-rate P p24 p25 p29 p30 rate is =
-    by-test (eqb rate 24) (λ e. subst P (sym (eqb-true rate 24 e)) p24)
-    (λ n24. by-test (eqb rate 25) (λ e. subst P (sym (eqb-true rate 25 e)) p25)
-    (λ n25. by-test (eqb rate 29) (λ e. subst P (sym (eqb-true rate 29 e)) p29)
+by_rate P p24 p25 p29 p30 rate is =
+    by_test (eqb rate 24) (λ e. subst P (sym (eqb-true rate 24 e)) p24)
+    (λ n24. by_test (eqb rate 25) (λ e. subst P (sym (eqb-true rate 25 e)) p25)
+    (λ n25. by_test (eqb rate 29) (λ e. subst P (sym (eqb-true rate 29 e)) p29)
     (λ n29. subst P (sym (eqb-true rate 30 (rw (n24, n25, n29) at is))) p30)))
 
 -- a rate's number is small
 pub rate_small : (rate : ℕ) → is_rate rate ≡ true → rate ≤ 30
-rate_small = by-rate (λ (rate : ℕ). rate ≤ 30) (omega arith) (omega arith) (omega arith) (omega arith)
+rate_small = by_rate (λ (rate : ℕ). rate ≤ 30) (omega arith) (omega arith) (omega arith) (omega arith)
 
 -- every code has a rate
 pub code_rated : (code : ℕ) → is_rate (rate_of_code code) ≡ true
@@ -42,7 +42,7 @@ pub record Coded (rate : ℕ) : Type 0 where
 pub rate_coded : (rate : ℕ) → is_rate rate ≡ true → Coded rate
 unfolding rate_of_code code_of_rate
 rate_coded =
-    by-rate Coded (record { small = omega arith; back = refl }) (record { small = omega arith; back = refl })
+    by_rate Coded (record { small = omega arith; back = refl }) (record { small = omega arith; back = refl })
     (record { small = omega arith; back = refl })
     (record { small = omega arith; back = refl })
 
@@ -50,9 +50,9 @@ rate_coded =
 pub code_back : (code : ℕ) → code < 4 → code_of_rate (rate_of_code code) ≡ code
 unfolding rate_of_code code_of_rate
 code_back code h =
-    by-test (eqb code 0) (λ e. rw e (sym (eqb-true code 0 e)))
-    (λ n0. by-test (eqb code 1) (λ e. rw (n0, e) (sym (eqb-true code 1 e)))
-    (λ n1. by-test (eqb code 2) (λ e. rw (n0, n1, e) (sym (eqb-true code 2 e)))
+    by_test (eqb code 0) (λ e. rw e (sym (eqb-true code 0 e)))
+    (λ n0. by_test (eqb code 1) (λ e. rw (n0, e) (sym (eqb-true code 1 e)))
+    (λ n1. by_test (eqb code 2) (λ e. rw (n0, n1, e) (sym (eqb-true code 2 e)))
     (λ n2. rw (n0, n1, n2) (omega (arith, eqb-false code 0 n0, eqb-false code 1 n1, eqb-false code 2 n2)))))
 
 -- the ranges of a time, one by one
@@ -95,7 +95,7 @@ is_time_lem rules t r =
     )
 
 pub out_of_range : (rules : Rules) (t : Time) → (InRange rules t → ⊥) → is_time rules t ≡ false
-out_of_range rules t not = by-test (is_time rules t) (λ is. absurd (not (in_range rules t is))) (λ is. is)
+out_of_range rules t not = by_test (is_time rules t) (λ is. absurd (not (in_range rules t is))) (λ is. is)
 
 pub time_length : (t : Time) → length (time_bytes t) ≡ 5
 unfolding time_bytes
@@ -169,8 +169,8 @@ decides :
     (a ≡ b → ltb p q ≡ rest) →
     ltb p q ≡ pick (eqb a b) rest (ltb a b)
 decides a b {p} {q} less more same =
-    by-test (eqb a b) (λ e. rw e (same (eqb-true a b e)))
-    (λ n. by-test (ltb a b) (λ e. rw (n, e) (lt-ltb p q (less (ltb-true a b e))))
+    by_test (eqb a b) (λ e. rw e (same (eqb-true a b e)))
+    (λ n. by_test (ltb a b) (λ e. rw (n, e) (lt-ltb p q (less (ltb-true a b e))))
     (λ e. rw (n, e) (le-ltb p q (omega (arith, more (omega (arith, ltb-false a b e, eqb-false a b n)))))))
 
 -- the order of times, field by field, hour first: the first field in which they differ decides
@@ -204,7 +204,7 @@ positions_ordered rules s t es et one =
     let same : seconds s * s.rate ≡ seconds t * t.rate = cc in
     decides s.frame t.frame (λ h. by_frames s t is one (omega arith)) (λ h. by_frames t s it (sym one) (omega arith))
     (λ frame.
-    by-lt s.subframe t.subframe (λ h. lt-ltb (subframes s) (subframes t) (omega arith) ∙ sym (lt-ltb _ _ h))
+    by_lt s.subframe t.subframe (λ h. lt-ltb (subframes s) (subframes t) (omega arith) ∙ sym (lt-ltb _ _ h))
     (λ h. le-ltb (subframes s) (subframes t) (omega arith) ∙ sym (le-ltb _ _ h))))))
 
 -- where a field and what follows it decide neither way, the field is the same and what follows decides neither way
@@ -214,7 +214,7 @@ undecided :
     pick (eqb b a) y (ltb b a) ≡ false →
     (a ≡ b) × (x ≡ false) × (y ≡ false)
 undecided a b x y p q =
-    by-test (eqb a b)
+    by_test (eqb a b)
     (λ e. let same = eqb-true a b e in (same, rw e at p, rw (eq-eqb b a (sym same)) at q))
     (λ n. let ba = ltb-false a b (rw n at p) in
     let ab = ltb-false b a (rw (ne_eqb b a (λ (e : b ≡ a). eqb-false a b n (sym e))) at q) in

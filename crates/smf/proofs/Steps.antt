@@ -55,10 +55,10 @@ module _ (rules : Rules) (most : ℕ) (s : List ℕ) (at : ℕ) where
     one_less : r.count < most → most - r.count ≡ suc (most - (r.count + 1))
     one_less h = omega arith
 
-    event-step : r.place < length s → r.count < most → (a : ReadAt) → event_at rules r.running s r.place ≡ a → Stepped rules most s at r (step_on r a)
+    event_step : r.place < length s → r.count < most → (a : ReadAt) → event_at rules r.running s r.place ≡ a → Stepped rules most s at r (step_on r a)
     unfolding step_on
-    event-step h room (refused_at n used after padding) e = rw (one_less room) (more_refused rules r.running s at r.place site (most - (r.count + 1)) h e)
-    event-step h room (reads_at a) e =
+    event_step h room (refused_at n used after padding) e = rw (one_less room) (more_refused rules r.running s at r.place site (most - (r.count + 1)) h e)
+    event_step h room (reads_at a) e =
         let next = more_next rules r.running s at r.place site h e in
         record {
           room = room;
@@ -70,12 +70,12 @@ module _ (rules : Rules) (most : ℕ) (s : List ℕ) (at : ℕ) where
           list = ap (λ (n : ℕ). list_placed s at (read_more rules n r.running (drop r.place s))) (one_less room) ∙ more_step rules r.running s at r.place site (most - (r.count + 1)) h e;
         }
 
-    pub next-stepped : Stepped rules most s at r (next_at rules most s r)
+    pub next_stepped : Stepped rules most s at r (next_at rules most s r)
     unfolding next_at
-    next-stepped =
+    next_stepped =
         pick_test (Stepped rules most s at r) (leb (length s) r.place)
         (λ t. more_end rules r.running s at r.place site (most - r.count) (leb-true (length s) r.place t))
         (λ t. let h : r.place < length s = omega (arith, leb-false (length s) r.place t) in
         pick_test (Stepped rules most s at r) (leb most r.count)
         (λ u. let none : most - r.count ≡ 0 = omega (arith, leb-true most r.count u) in rw none (more_full rules r.running s at r.place site h))
-        (λ u. event-step h (omega (arith, leb-false most r.count u)) (event_at rules r.running s r.place) refl))
+        (λ u. event_step h (omega (arith, leb-false most r.count u)) (event_at rules r.running s r.place) refl))

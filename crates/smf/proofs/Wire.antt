@@ -111,9 +111,9 @@ no_bytes (b ∷ s) h = absurd (omega arith)
 module _ (rules : Rules) (running : ℕ) (delta : Delta) where
   -- a channel event, of whose status bytes no fewer stand in front than are written
   module _ (front : List ℕ) (status : ℕ) (c : Channel status) (f : lead running status ≤ length front) where
-    data-read : (raw : Raw) (ds s : List ℕ) → Sound raw → load_of raw ≡ [] → status ≡ running_after raw → length (encode_raw running raw) ≡ lead running status + length ds
+    data_read : (raw : Raw) (ds s : List ℕ) → Sound raw → load_of raw ≡ [] → status ≡ running_after raw → length (encode_raw running raw) ≡ lead running status + length ds
         → Body rules running delta (front ++ (ds ++ s)) (taken (raw_event delta.value raw) s status delta.padding)
-    data-read raw ds s sound bare after size =
+    data_read raw ds s sound bare after size =
         let n : length (encode_raw running raw) + length s ≤ length (front ++ (ds ++ s)) = omega (arith, length-append front (ds ++ s), length-append ds s) in
         record {
           same = refl;
@@ -130,7 +130,7 @@ module _ (rules : Rules) (running : ℕ) (delta : Delta) where
     one_read [] o = tt
     one_read (a ∷ s) o =
         pick_test (BodyRead rules running delta (front ++ (a ∷ s))) (ltb a 0x80)
-        (λ e. data-read (one status a) (a ∷ []) s (c, o, ltb-true a 0x80 e) refl refl (pick_length (eqb running status) status (a ∷ [])))
+        (λ e. data_read (one status a) (a ∷ []) s (c, o, ltb-true a 0x80 e) refl refl (pick_length (eqb running status) status (a ∷ [])))
         (λ e. tt)
 
     two_read : (ds : List ℕ) → takes_one status ≡ false → BodyRead rules running delta (front ++ ds) (read_two status delta ds)
@@ -140,13 +140,13 @@ module _ (rules : Rules) (running : ℕ) (delta : Delta) where
     two_read (a ∷ b ∷ s) o =
         pick_test (BodyRead rules running delta (front ++ (a ∷ b ∷ s))) (ltb a 0x80)
         (λ e. pick_test (BodyRead rules running delta (front ++ (a ∷ b ∷ s))) (ltb b 0x80)
-        (λ g. data-read (two status a b) (a ∷ b ∷ []) s (c, o, ltb-true a 0x80 e, ltb-true b 0x80 g) refl refl (pick_length (eqb running status) status (a ∷ b ∷ [])))
+        (λ g. data_read (two status a b) (a ∷ b ∷ []) s (c, o, ltb-true a 0x80 e, ltb-true b 0x80 g) refl refl (pick_length (eqb running status) status (a ∷ b ∷ [])))
         (λ g. tt))
         (λ e. tt)
 
-    channel-read : (ds : List ℕ) → BodyRead rules running delta (front ++ ds) (read_channel status delta ds)
+    channel_read : (ds : List ℕ) → BodyRead rules running delta (front ++ ds) (read_channel status delta ds)
     unfolding read_channel
-    channel-read ds = pick_test (BodyRead rules running delta (front ++ ds)) (takes_one status) (one_read ds) (two_read ds)
+    channel_read ds = pick_test (BodyRead rules running delta (front ++ ds)) (takes_one status) (one_read ds) (two_read ds)
 
   -- a payload, behind as many bytes as are written before it
   load_read : (of : List ℕ → Raw) (front s : List ℕ) → Loads of (length front) → (a : Answer Payload) → PayloadLoaded rules s a
@@ -181,7 +181,7 @@ module _ (rules : Rules) (running : ℕ) (delta : Delta) where
   unfolding read_status
   status_read status s low =
       let P = BodyRead rules running delta (status ∷ s) in
-      pick_test P (ltb status 0xF0) (λ e. channel-read (status ∷ []) status (record { low = low; high = ltb-true status 0xF0 e }) (lead_most running status) s)
+      pick_test P (ltb status 0xF0) (λ e. channel_read (status ∷ []) status (record { low = low; high = ltb-true status 0xF0 e }) (lead_most running status) s)
       (λ e0. pick_test P (eqb status 0xFF) (λ e. rw (eqb-true status 0xFF e) (meta_read_lem s))
       (λ e1. pick_test P (eqb status 0xF0) (λ e. load_read (system status) (status ∷ []) s (system_loads status (inl (eqb-true status 0xF0 e))) (read_payload rules s) (payload_loaded rules s))
       (λ e2. pick_test P (eqb status 0xF7) (λ e. load_read (system status) (status ∷ []) s (system_loads status (inr (eqb-true status 0xF7 e))) (read_payload rules s) (payload_loaded rules s))
@@ -194,7 +194,7 @@ module _ (rules : Rules) (running : ℕ) (delta : Delta) where
       let P = BodyRead rules running delta (b ∷ s) in
       pick_test P (ltb b 0x80)
       (λ e. pick_test P (eqb running 0) (λ n. tt)
-      (λ n. ⊎_elim (λ z. absurd (eqb-false running 0 n z)) (λ c. channel-read [] running c (omega (arith, lead_spared running)) (b ∷ s)) (running_is running is)))
+      (λ n. ⊎_elim (λ z. absurd (eqb-false running 0 n z)) (λ c. channel_read [] running c (omega (arith, lead_spared running)) (b ∷ s)) (running_is running is)))
       (λ e. status_read b s (ltb-false b 0x80 e))
 
 -- the same of the bytes s that begin with the delta; and the event ends past its start, with its padding among the bytes used

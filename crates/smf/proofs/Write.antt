@@ -70,19 +70,19 @@ module _ (bytes : List ℕ) (span : Span) (s : List ℕ) (at : ℕ) where
   slice_outside e = rw e
 
   module _ (is : inside bytes span ≡ true) where
-    pub slice-long : length (bytes_of bytes span) ≡ span.length
-    slice-long = part_length bytes span (inside_within bytes span is)
+    pub slice_long : length (bytes_of bytes span) ≡ span.length
+    slice_long = part_length bytes span (inside_within bytes span is)
 
-    pub slice-full : length s < at + span.length → left s 20 ≡ write (part bytes span) s at
+    pub slice_full : length s < at + span.length → left s 20 ≡ write (part bytes span) s at
     unfolding part
-    slice-full h = rw is (put_full (bytes_of bytes span) s at (omega (arith, slice-long)))
+    slice_full h = rw is (put_full (bytes_of bytes span) s at (omega (arith, slice_long)))
 
     pub slice_fits : at + span.length ≤ length s → (end : List ℕ) → end ≡ over (bytes_of bytes span) s at
         → record { buffer = end; answer = gives (at + span.length) } ≡ write (part bytes span) s at
     unfolding part
     slice_fits h end e =
-        rw (is, e) (ap (λ (n : ℕ). record { buffer = over (bytes_of bytes span) s at; answer = gives (at + n) }) (sym slice-long)
-        ∙ put_fits (bytes_of bytes span) s at (omega (arith, slice-long)))
+        rw (is, e) (ap (λ (n : ℕ). record { buffer = over (bytes_of bytes span) s at; answer = gives (at + n) }) (sym slice_long)
+        ∙ put_fits (bytes_of bytes span) s at (omega (arith, slice_long)))
 
 module _ (bytes : List ℕ) (start n : ℕ) where
   pub part_outside : length bytes < start + n → payload_bytes bytes start n ≡ refuses 19

@@ -14,7 +14,7 @@ use Rattle.smf.specs.Lists as smf
 use Rattle.smf.specs.Lists.{read_list, event_from, ListAt, list_at, Reader, next_at}
 use Rattle.smf.proofs.Place.{Sited, site_begun}
 use Rattle.smf.proofs.Lists.{list_read}
-use Rattle.smf.proofs.Steps.{list_from, reader_at, Took, Stepped, list_from_lem, next-stepped}
+use Rattle.smf.proofs.Steps.{list_from, reader_at, Took, Stepped, list_from_lem, next_stepped}
 
 -- events and their padding in front of those of a list
 abbrev behind : List (Event Span) → ℕ → ListAt → ListAt
@@ -54,7 +54,7 @@ module _ {cap : ℕ} {rules : Rules} {s : List ℕ} {at first : ℕ} {es : List 
   among = omega (arith, h.counted, ap (λ (l : ListAt). length l.events) h.sofar, length-append es (list_from rules cap s at r).events)
 
   stepped : Stepped rules cap s at r (next_at rules cap s r)
-  stepped = next-stepped rules cap s at r h.site
+  stepped = next_stepped rules cap s at r h.site
 
   -- where the step stops, the events so far are all
   pub all : {why : smf.Stop} → next_at rules cap s r ≡ smf.stops why → Answered cap rules s at first es padding why r

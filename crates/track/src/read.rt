@@ -12,7 +12,7 @@ use crate::record::recorded;
 use base::{Refusal, Rules, Running};
 
 // What reading a list answers.
-#[derive(Drop)]
+#[derive(Clone, Copy)]
 pub struct ReadList {
     // the events that were read, those before a refusal too
     pub list: EventList,

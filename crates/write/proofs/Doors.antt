@@ -11,7 +11,7 @@ use Rattle.smf.specs.Place.{Span, inside, bytes_of}
 use Rattle.smf.specs.Wire as wire
 use Rattle.smf.specs.Wire.{raw_event}
 use Rattle.smf.specs.Event.{Event, kind_fits, kind_load, kind_misnamed, no_span, span_length, map_event, legal}
-use Rattle.smf.proofs.Answer.{by-test, by_answer, both}
+use Rattle.smf.proofs.Answer.{by_test, by_answer, both}
 use Rattle.rows.specs.RowEvent.{event_of_row, row_judged}
 use Rattle.rows.proofs.IsRow.{is_none}
 use Rattle.base.specs.Refusal.{number_of}
@@ -33,12 +33,12 @@ module _ (bytes : List ℕ) (delta : ℕ) where
   behind_wide m h = rw (le-ltb _ _ h)
 
   module _ (h : delta < 2 ^ 28) where
-    pub behind-refused : (m : Made) (n : Refusal) → m ≡ made.Refused n → refuses (number_of n) ≡ Behind m
-    behind-refused m n e = rw (lt-ltb _ _ h, e)
+    pub behind_refused : (m : Made) (n : Refusal) → m ≡ made.Refused n → refuses (number_of n) ≡ Behind m
+    behind_refused m n e = rw (lt-ltb _ _ h, e)
 
-    pub behind-raw : (m : Made) (r : Raw) → m ≡ made.Raw r
+    pub behind_raw : (m : Made) (r : Raw) → m ≡ made.Raw r
         → pick (ltb delta (2 ^ 28) && is_sound bytes r) (gives (raw_event delta (wire_of bytes r))) (refuses 0) ≡ Behind m
-    behind-raw m r e = rw (lt-ltb _ _ h, e) (by-test (is_sound bytes r) (λ s. rw s) (λ s. rw s))
+    behind_raw m r e = rw (lt-ltb _ _ h, e) (by_test (is_sound bytes r) (λ s. rw s) (λ s. rw s))
 
 -- no number by which an event is refused is 0: of a record, and of a row
 pub legal_number : (rules : Rules) (bytes : List ℕ) (e : Event Span) → legal rules bytes e ≡ refuses 0 → ⊥
@@ -69,7 +69,7 @@ raw_number (refuses n) q = let w : n ≡ 0 = cc in ap refuses w
 pub told : (bytes : List ℕ) (j : Answer (Event (List ℕ))) → (j ≡ refuses 0 → ⊥) → (d : Judged) → judged_said bytes d ≡ raw_judged j → LetThrough bytes d
 told bytes j numbered (judged.Refused n) h = tt
 told bytes j numbered (judged.Raw r) h =
-    by-test (ltb r.delta.0 (2 ^ 28) && is_sound bytes r.raw)
+    by_test (ltb r.delta.0 (2 ^ 28) && is_sound bytes r.raw)
     (λ t. let p = both (ltb r.delta.0 (2 ^ 28)) (is_sound bytes r.raw) t in (ltb-true _ _ p.0, p.1))
     (λ t. absurd (numbered (raw_number j (rw t at h))))
 

@@ -18,7 +18,7 @@ use Rattle.smf.specs.Wire.{raw_event}
 use Rattle.smf.specs.Kind.{Message, Meta, track_number, no_track_number, text, midi_channel, midi_port, end_of_track, tempo, smpte_offset, time_signature, key_signature, sequencer_specific, unknown}
 use Rattle.smf.specs.Kind.{Kind, midi, sys_ex, escape, meta, is_text, raw_message, raw_meta, raw_of}
 use Rattle.smf.specs.Event.{Event, event, message_fits, meta_fits, kind_fits, load_or, meta_carries, carries, kind_load, misnamed, kind_misnamed, is_named, no_span, span_length, map_meta, map_kind, map_event, legal}
-use Rattle.smf.proofs.Answer.{by-test, by-lt, given}
+use Rattle.smf.proofs.Answer.{by_test, by_lt, given}
 use Rattle.base.specs.declared.Refusal.{Refusal}
 use Rattle.header.specs.Smpte.{encoded_smpte_time}
 use Rattle.header.specs.declared.smpte.EncodedSmpteTime.{EncodedSmpteTime}
@@ -160,25 +160,25 @@ module _ (rules : Rules) (bytes : List ℕ) where
 
   -- an SMPTE time, by what its encoding answers
   module _ (t : Time) where
-    pub time-given : (r : EncodedSmpteTime) (a b c d e : ℕ) → encoded_smpte_time r ≡ encode_time rules t → r ≡ Bytes a b c d e
+    pub time_given_lem : (r : EncodedSmpteTime) (a b c d e : ℕ) → encoded_smpte_time r ≡ encode_time rules t → r ≡ Bytes a b c d e
         → gives (wire.typed 0x54 (a ∷ b ∷ c ∷ d ∷ e ∷ [])) ≡ raw_kind rules bytes (meta (smpte_offset t))
     unfolding encode_time
-    time-given r a b c d e says is =
+    time_given_lem r a b c d e says is =
         let g = given (is_time rules t) (time_bytes t) 18 (sym (ap encoded_smpte_time (sym is) ∙ says)) in
         rw (time_made t, g.0) (ap (λ (l : List ℕ). gives (wire.typed 0x54 l)) (sym g.1))
 
-    pub time-refused : (r : EncodedSmpteTime) (n : Refusal) → encoded_smpte_time r ≡ encode_time rules t → r ≡ Refused n
+    pub time_refused : (r : EncodedSmpteTime) (n : Refusal) → encoded_smpte_time r ≡ encode_time rules t → r ≡ Refused n
         → refuses 18 ≡ raw_kind rules bytes (meta (smpte_offset t))
     unfolding encode_time
-    time-refused r n says is =
+    time_refused r n says is =
         rw (time_made t)
-        (by-test (is_time rules t)
+        (by_test (is_time rules t)
         (λ (e : is_time rules t ≡ true). let z : ◌≡◌ {A = ℕ} 0 1 = cc in absurd (omega arith))
         (λ e. rw e))
 
 -- seven bits and seven are fourteen
 pub bend_fits : (b : ℕ) → (ltb (b % 128) 128 && ltb (b / 128) 128) ≡ ltb b 16384
 bend_fits b =
-    by-lt b 16384
+    by_lt b 16384
     (λ h. rw (lt-ltb (b % 128) 128 (omega arith), lt-ltb (b / 128) 128 (omega arith), lt-ltb b 16384 h))
     (λ h. rw (lt-ltb (b % 128) 128 (omega arith), le-ltb (b / 128) 128 (omega arith), le-ltb b 16384 h))

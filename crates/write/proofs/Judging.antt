@@ -26,14 +26,14 @@ use Rattle.write.specs.Raw.{raw_judged}
 
 module _ (rules : Rules) (bytes : List ℕ) where
   module _ (records : List Record) (count : ℕ) where
-    abbrev pub recordsCounted : List (Answer (Event (List ℕ)))
-    recordsCounted = take count (records_judged rules bytes (map record_of records))
+    abbrev pub records_counted : List (Answer (Event (List ℕ)))
+    records_counted = take count (records_judged rules bytes (map record_of records))
 
-    pub records-counted : count ≤ length records → length recordsCounted ≡ count
-    records-counted h = length-take-le count (records_judged rules bytes (map record_of records)) (omega (arith, length-map (map record_of records) (legal rules bytes), length-map records record_of))
+    pub records_counted_lem : count ≤ length records → length records_counted ≡ count
+    records_counted_lem h = length-take-le count (records_judged rules bytes (map record_of records)) (omega (arith, length-map (map record_of records) (legal rules bytes), length-map records record_of))
 
-    pub record-counted : (i : ℕ) → i < count → get_or recordsCounted i (legal rules bytes (record_of past)) ≡ legal rules bytes (record_of (get_or records i past))
-    record-counted i h =
+    pub record_counted : (i : ℕ) → i < count → get_or records_counted i (legal rules bytes (record_of past)) ≡ legal rules bytes (record_of (get_or records i past))
+    record_counted i h =
         get_or-take count (records_judged rules bytes (map record_of records)) i (legal rules bytes (record_of past)) h
         ∙ get_or-map (legal rules bytes) (map record_of records) i (record_of past)
         ∙ ap (legal rules bytes) (get_or-map record_of records i past)
@@ -61,14 +61,14 @@ module _ (rules : Rules) (bytes : List ℕ) where
   rows_at (suc n) cells (suc i) d h = rows_at n (drop width cells) i d (omega arith) ∙ ap (λ (l : List ℕ). row_judged rules bytes (take width l)) (row_on i cells)
 
   module _ (n : ℕ) (cells : List ℕ) where
-    abbrev pub rowsCounted : List (Answer (Event (List ℕ)))
-    rowsCounted = take n (rows_judged rules bytes n cells)
+    abbrev pub rows_counted : List (Answer (Event (List ℕ)))
+    rows_counted = take n (rows_judged rules bytes n cells)
 
-    pub rows-counted : length rowsCounted ≡ n
-    rows-counted = length-take-le n (rows_judged rules bytes n cells) (omega (arith, rows_length n cells))
+    pub rows_counted_lem : length rows_counted ≡ n
+    rows_counted_lem = length-take-le n (rows_judged rules bytes n cells) (omega (arith, rows_length n cells))
 
-    pub row-counted : (i : ℕ) (d : Answer (Event (List ℕ))) → i < n → get_or rowsCounted i d ≡ row_judged rules bytes (take width (drop (i * width) cells))
-    row-counted i d h = get_or-take n (rows_judged rules bytes n cells) i d h ∙ rows_at n cells i d h
+    pub row_counted : (i : ℕ) (d : Answer (Event (List ℕ))) → i < n → get_or rows_counted i d ≡ row_judged rules bytes (take width (drop (i * width) cells))
+    row_counted i d h = get_or-take n (rows_judged rules bytes n cells) i d h ∙ rows_at n cells i d h
 
   -- a row that is given is a legal event's
   pub row_lawful : (r : List ℕ) (e : Event (List ℕ)) → row_judged rules bytes r ≡ gives e → is_legal rules e ≡ true

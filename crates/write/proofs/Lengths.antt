@@ -29,24 +29,24 @@ module _ (bytes : List ℕ) where
   sound_short (raw.Fixed t own) e = omega (arith, leb-true own.n 5 e)
 
   module _ (running : ℕ) where
-    pub raw-length : (r : Raw) → is_sound bytes r ≡ true → length (encode_raw running (wire_of bytes r)) ≡ raw_length running r
+    pub raw_length_lem : (r : Raw) → is_sound bytes r ≡ true → length (encode_raw running (wire_of bytes r)) ≡ raw_length running r
     unfolding is_sound raw_length wire_of encode_raw
-    raw-length (raw.Channel c) e = ap length (channel_wire running c) ∙ length-append (status_bytes running c.status) (data_bytes c) ∙ rw (data_length_lem running c)
-    raw-length (raw.System status load) e = omega (arith, load_length_lem bytes (span_of load) (lent_inside bytes (span_of load) e))
-    raw-length (raw.Typed t load) e = omega (arith, load_length_lem bytes (span_of load) (lent_inside bytes (span_of load) e))
-    raw-length (raw.Fixed t own) e = omega (arith, own_length own (leb-true own.n 5 e))
+    raw_length_lem (raw.Channel c) e = ap length (channel_wire running c) ∙ length-append (status_bytes running c.status) (data_bytes c) ∙ rw (data_length_lem running c)
+    raw_length_lem (raw.System status load) e = omega (arith, load_length_lem bytes (span_of load) (lent_inside bytes (span_of load) e))
+    raw_length_lem (raw.Typed t load) e = omega (arith, load_length_lem bytes (span_of load) (lent_inside bytes (span_of load) e))
+    raw_length_lem (raw.Fixed t own) e = omega (arith, own_length own (leb-true own.n 5 e))
 
-    pub raw-after : (r : Raw) → running_after (wire_of bytes r) ≡ raw_after r
+    pub raw_after_lem : (r : Raw) → running_after (wire_of bytes r) ≡ raw_after r
     unfolding wire_of raw_after
-    raw-after (raw.Channel c) = channel_after running c
-    raw-after (raw.System status load) = refl
-    raw-after (raw.Typed t load) = refl
-    raw-after (raw.Fixed t own) = refl
+    raw_after_lem (raw.Channel c) = channel_after running c
+    raw_after_lem (raw.System status load) = refl
+    raw_after_lem (raw.Typed t load) = refl
+    raw_after_lem (raw.Fixed t own) = refl
 
-    pub raw-size : (delta : ℕ) (r : Raw) → is_sound bytes r ≡ true
+    pub raw_size_lem : (delta : ℕ) (r : Raw) → is_sound bytes r ≡ true
         → size (length (encode_number delta) + raw_length running r) (raw_after r) ≡ raw_size running (raw_event delta (wire_of bytes r))
     unfolding encode_raw_event
-    raw-size delta r e = rw (raw-after r, length-append (encode_number delta) (encode_raw running (wire_of bytes r)), raw-length r e)
+    raw_size_lem delta r e = rw (raw_after_lem r, length-append (encode_number delta) (encode_raw running (wire_of bytes r)), raw_length_lem r e)
 
 -- one status byte, or none
 status_few : (running status : ℕ) → length (status_bytes running status) ≤ 1

@@ -42,9 +42,9 @@ module _ (running : ℕ) (js : List (Answer (Event (List ℕ)))) where
 
   -- the next event was measured, wherever the code takes it from
   module _ {n status i : ℕ} (h : Seen n status i) (more : i < length js) (d j : Answer (Event (List ℕ))) (there : get_or js i d ≡ j) (a : EventLength) (said : length_said a ≡ size_judged status j) where
-    pub seen-illegal : (m : Refusal) → a ≡ event.Refused m → unsized running (number_of m) i ≡ size_checked running (check 0 js)
+    pub seen_illegal : (m : Refusal) → a ≡ event.Refused m → unsized running (number_of m) i ≡ size_checked running (check 0 js)
     unfolding size_checked
-    seen-illegal m e =
+    seen_illegal m e =
         rw (legal_stops js i d h.events more h.legal (there ∙ size_refused status j (number_of m) (sym said ∙ ap length_said e)))
 
     module _ (rules : Rules) (lawful : (e : Event (List ℕ)) → j ≡ gives e → is_legal rules e ≡ true) (s : Size) (e : a ≡ event.Length s) where

@@ -45,17 +45,17 @@ module _ (bytes : List ℕ) (span : Span) where
 
   -- what was looked at, says the same of whatever has the payload
   module _ (r : Looked) (says : looked_said r ≡ lent bytes span tt) where
-    pub looked-refused : {A : Type 0} (x : A) (n : Refusal) → r ≡ looked.Refused n → lent bytes span x ≡ refuses (number_of n)
+    pub looked_refused : {A : Type 0} (x : A) (n : Refusal) → r ≡ looked.Refused n → lent bytes span x ≡ refuses (number_of n)
     unfolding lent
-    looked-refused x n e = by (inside bytes span) (ltb span.length (2 ^ 28)) (sym (ap looked_said e) ∙ says) where
+    looked_refused x n e = by (inside bytes span) (ltb span.length (2 ^ 28)) (sym (ap looked_said e) ∙ says) where
       by : (s t : Bool) → refuses (number_of n) ≡ pick s (pick t (gives (tt {0})) (refuses 22)) (refuses 19) → pick s (pick t (gives x) (refuses 22)) (refuses 19) ≡ refuses (number_of n)
       by true true k = cc
       by true false k = sym (cc)
       by false t k = sym (cc)
 
-    pub looked-there : {A : Type 0} (x : A) → r ≡ looked.There → (lent bytes span x ≡ gives x) × (is_lent bytes span ≡ true)
+    pub looked_there : {A : Type 0} (x : A) → r ≡ looked.There → (lent bytes span x ≡ gives x) × (is_lent bytes span ≡ true)
     unfolding lent is_lent
-    looked-there x e = by (inside bytes span) (ltb span.length (2 ^ 28)) (sym (ap looked_said e) ∙ says) where
+    looked_there x e = by (inside bytes span) (ltb span.length (2 ^ 28)) (sym (ap looked_said e) ∙ says) where
       by : (s t : Bool) → gives (tt {0}) ≡ pick s (pick t (gives (tt {0})) (refuses 22)) (refuses 19) → (pick s (pick t (gives x) (refuses 22)) (refuses 19) ≡ gives x) × ((s && t) ≡ true)
       by true true k = (refl, refl)
       by true false k = let z : ◌≡◌ {A = ℕ} 0 1 = cc in absurd (omega arith)

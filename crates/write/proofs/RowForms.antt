@@ -17,7 +17,7 @@ use Rattle.smf.specs.Wire.{raw_event}
 use Rattle.smf.specs.Kind as kind
 use Rattle.smf.specs.Kind.{is_text}
 use Rattle.smf.specs.Event.{message_fits, legal}
-use Rattle.smf.proofs.Answer.{by-test, by-lt, both, given}
+use Rattle.smf.proofs.Answer.{by_test, by_lt, both, given}
 use Rattle.smf.proofs.Signed.{signed_low, signed_high}
 use Rattle.rows.specs.Rows.{width}
 use Rattle.rows.specs.RowEvent.{are_bytes, fields_fit, cell, is_row, row_message, row_meta, row_kind, row_span, called_row, event_of_row, row_judged}
@@ -62,23 +62,23 @@ data_bytes_lem a b c h =
 -- a channel message's number is one of seven
 by_number : {G : Type 0} (n : ℕ) → 8 ≤ n → n < 15 → (n ≡ 8 → G) → (n ≡ 9 → G) → (n ≡ 10 → G) → (n ≡ 11 → G) → (n ≡ 12 → G) → (n ≡ 13 → G) → (n ≡ 14 → G) → G
 by_number n low high a b c d e f g =
-    by-lt n 9 (λ p. a (omega arith))
-    (λ p. by-lt n 10 (λ q. b (omega arith))
-    (λ q. by-lt n 11 (λ s. c (omega arith))
-    (λ s. by-lt n 12 (λ t. d (omega arith))
-    (λ t. by-lt n 13 (λ u. e (omega arith)) (λ u. by-lt n 14 (λ v. f (omega arith)) (λ v. g (omega arith)))))))
+    by_lt n 9 (λ p. a (omega arith))
+    (λ p. by_lt n 10 (λ q. b (omega arith))
+    (λ q. by_lt n 11 (λ s. c (omega arith))
+    (λ s. by_lt n 12 (λ t. d (omega arith))
+    (λ t. by_lt n 13 (λ u. e (omega arith)) (λ u. by_lt n 14 (λ v. f (omega arith)) (λ v. g (omega arith)))))))
 
 -- below it no number is a kind's
 pub no_kind : (n a b c d e f : ℕ) → n < 8 → fields_fit n a b c d e f ≡ false
 unfolding fields_fit is_text
 no_kind n a b c d e f h =
-    by-lt n 1 (λ p. let z : n ≡ 0 = omega arith in rw z)
-    (λ p. by-lt n 2 (λ q. let z : n ≡ 1 = omega arith in rw z)
-    (λ q. by-lt n 3 (λ s. let z : n ≡ 2 = omega arith in rw z)
-    (λ s. by-lt n 4 (λ t. let z : n ≡ 3 = omega arith in rw z)
-    (λ t. by-lt n 5 (λ u. let z : n ≡ 4 = omega arith in rw z)
-    (λ u. by-lt n 6 (λ v. let z : n ≡ 5 = omega arith in rw z)
-    (λ v. by-lt n 7 (λ w. let z : n ≡ 6 = omega arith in rw z) (λ w. let z : n ≡ 7 = omega arith in rw z)))))))
+    by_lt n 1 (λ p. let z : n ≡ 0 = omega arith in rw z)
+    (λ p. by_lt n 2 (λ q. let z : n ≡ 1 = omega arith in rw z)
+    (λ q. by_lt n 3 (λ s. let z : n ≡ 2 = omega arith in rw z)
+    (λ s. by_lt n 4 (λ t. let z : n ≡ 3 = omega arith in rw z)
+    (λ t. by_lt n 5 (λ u. let z : n ≡ 4 = omega arith in rw z)
+    (λ u. by_lt n 6 (λ v. let z : n ≡ 5 = omega arith in rw z)
+    (λ v. by_lt n 7 (λ w. let z : n ≡ 6 = omega arith in rw z) (λ w. let z : n ≡ 7 = omega arith in rw z)))))))
 
 module _ (rules : Rules) (bytes : List ℕ) (a b c d e f : ℕ) where
   abbrev Row : ℕ → Answer wire.Raw
@@ -123,15 +123,15 @@ module _ (rules : Rules) (bytes : List ℕ) (a b c d e f : ℕ) where
   -- a number that is no other kind's is a text's, or none
   module _ (n : ℕ) (low : 15 ≤ n) (f0 : n ≡ 0xF0 → ⊥) (f7 : n ≡ 0xF7 → ⊥)
       (h0 : n ≡ 0x100 → ⊥) (h1 : n ≡ 0x120 → ⊥) (h2 : n ≡ 0x121 → ⊥) (h3 : n ≡ 0x12F → ⊥) (h4 : n ≡ 0x151 → ⊥) (h5 : n ≡ 0x154 → ⊥) (h6 : n ≡ 0x158 → ⊥) (h7 : n ≡ 0x159 → ⊥) (h8 : n ≡ 0x17F → ⊥) (h9 : n ≡ 0x200 → ⊥) where
-    pub text-fits : fields_fit n a b c d e f ≡ is_text (n - 0x100)
+    pub text_fits : fields_fit n a b c d e f ≡ is_text (n - 0x100)
     unfolding fields_fit
-    text-fits =
+    text_fits =
         rw
         (ne_eqb n 8 (λ (x : n ≡ 8). omega arith), ne_eqb n 9 (λ (x : n ≡ 9). omega arith), ne_eqb n 10 (λ (x : n ≡ 10). omega arith), ne_eqb n 11 (λ (x : n ≡ 11). omega arith), ne_eqb n 12 (λ (x : n ≡ 12). omega arith), ne_eqb n 13 (λ (x : n ≡ 13). omega arith), ne_eqb n 14 (λ (x : n ≡ 14). omega arith), ne_eqb n 0xF0 f0, ne_eqb n 0xF7 f7, ne_eqb n 0x100 h0, ne_eqb n 0x120 h1, ne_eqb n 0x121 h2, ne_eqb n 0x12F h3, ne_eqb n 0x151 h4, ne_eqb n 0x154 h5, ne_eqb n 0x158 h6, ne_eqb n 0x159 h7, ne_eqb n 0x17F h8, ne_eqb n 0x200 h9)
 
-    pub text-meta : (span : Span) → row_meta n a b c d e f span ≡ kind.text (n - 0x100) span
+    pub text_meta : (span : Span) → row_meta n a b c d e f span ≡ kind.text (n - 0x100) span
     unfolding row_meta
-    text-meta span =
+    text_meta span =
         rw (ne_eqb n 0x100 h0, ne_eqb n 0x120 h1, ne_eqb n 0x121 h2, ne_eqb n 0x12F h3, ne_eqb n 0x151 h4, ne_eqb n 0x154 h5, ne_eqb n 0x158 h6, ne_eqb n 0x159 h7, ne_eqb n 0x17F h8, ne_eqb n 0x200 h9)
 
 -- a text type, and one that is none
@@ -150,7 +150,7 @@ text_is n low high = rw (le-leb 1 (n - 0x100) (omega arith), le-leb (n - 0x100) 
 -- the signed number of a byte is within its width
 pub signed_below : (b : ℕ) → b < 256 → mag (signed_byte b) < 128
 signed_below b h =
-    by-lt b 128 (λ low. rw (signed_low b low) low) (λ high. rw (signed_high b high h) (omega arith))
+    by_lt b 128 (λ low. rw (signed_low b low) low) (λ high. rw (signed_high b high h) (omega arith))
 
 -- a rate, by what `from_int` answers
 pub rate_wide : (rate : ℕ) → 256 ≤ rate → is_rate rate ≡ false
@@ -161,7 +161,7 @@ rate_wide rate h =
 pub rate_refused : (rate n : ℕ) → refuses n ≡ to_rate rate → is_rate rate ≡ false
 unfolding to_rate
 rate_refused rate n h =
-    by-test (is_rate rate) (λ (t : is_rate rate ≡ true). let z : refuses n ≡ gives rate = rw t at h in let w : ◌≡◌ {A = ℕ} 0 1 = cc in absurd (omega arith)) (λ t. t)
+    by_test (is_rate rate) (λ (t : is_rate rate ≡ true). let z : refuses n ≡ gives rate = rw t at h in let w : ◌≡◌ {A = ℕ} 0 1 = cc in absurd (omega arith)) (λ t. t)
 
 pub rate_given : (rate r : ℕ) → gives r ≡ to_rate rate → (is_rate rate ≡ true) × (rate ≡ r)
 unfolding to_rate
@@ -180,7 +180,7 @@ module _ (rules : Rules) (bytes : List ℕ) (r : List ℕ) where
   pub row_wide : 2 ^ 28 ≤ cell r 0 → refuses 18 ≡ raw_judged (row_judged rules bytes r)
   unfolding called_row
   row_wide h =
-      by-test (is_row r)
+      by_test (is_row r)
       (λ t. rw (row_called t, behind_delta rules bytes (cell r 0), le-ltb (cell r 0) (2 ^ 28) h))
       (λ t. sym (row_none t))
 
@@ -202,6 +202,6 @@ module _ (rules : Rules) (bytes : List ℕ) (r : List ℕ) where
   row_narrow long h =
       let wide : cell r 0 < 2 ^ 32 = omega (arith, h) in
       let all = is_fields long wide in
-      by-test fields
+      by_test fields
       (λ t. rw (row_called (all ∙ t), t) (behind_delta rules bytes (cell r 0) (row_kind (cell r 1) (cell r 2) (cell r 3) (cell r 4) (cell r 5) (cell r 6) (cell r 7) (row_span r))))
       (λ t. rw (row_none (all ∙ t), t, lt-ltb (cell r 0) (2 ^ 28) h))

@@ -13,7 +13,7 @@ use Rattle.smf.specs.Event.{Event}
 use Rattle.smf.specs.Lists.{Checked, all_legal, illegal, check, encode_list, list_after, ListAnswer, wrote, refuses_at, ListSize, unsized, size_checked, size_list, list_left, write_list}
 use Rattle.smf.proofs.Answer.{pick_test}
 use Rattle.smf.proofs.ListLegality.{check_legal}
-use Rattle.smf.proofs.ListWrites.{write_invalid, write_many, write_illegal, write_full, write-fits}
+use Rattle.smf.proofs.ListWrites.{write_invalid, write_many, write_illegal, write_full, write_fits}
 use Rattle.write.specs.ListAnswers.{RoomFor, InFront}
 
 module _ (most running : ℕ) (judged : List (Answer (Event (List ℕ)))) (count : ℕ) where
@@ -22,9 +22,9 @@ module _ (most running : ℕ) (judged : List (Answer (Event (List ℕ)))) (count
   size_invalid v = rw v
 
   module _ (v : is_running running ≡ true) where
-    pub size-many : most < count → unsized running 21 0 ≡ size_list most running judged count
+    pub size_many : most < count → unsized running 21 0 ≡ size_list most running judged count
     unfolding size_list
-    size-many h = rw (v, lt-leb _ _ h)
+    size_many h = rw (v, lt-leb _ _ h)
 
     pub size_few : count ≤ most → size_checked running (check 0 (take count judged)) ≡ size_list most running judged count
     unfolding size_list
@@ -63,31 +63,31 @@ module _ (most running : ℕ) (judged : List (Answer (Event (List ℕ)))) (count
         (λ many. sym (write_many most running judged count buffer v (leb-false _ _ many))))
         (λ v. sym (write_invalid most running judged count buffer v))
 
-    pub unsized-left : (left n i : ℕ) → unsized left n i ≡ size_list most running judged count
+    pub unsized_left : (left n i : ℕ) → unsized left n i ≡ size_list most running judged count
         → list_left left buffer n i ≡ write_list most running judged count buffer
-    unsized-left left n i e = subst Good (sym e) says
+    unsized_left left n i e = subst Good (sym e) says
 
     module _ (n after : ℕ) (e : record { answer = wrote n; running = after } ≡ size_list most running judged count) where
       sized : Sized (record { answer = wrote n; running = after }) n
       sized = subst Good (sym e) says
 
-      pub sized-few : count ≤ most
-      sized-few = sized.few
+      pub sized_few : count ≤ most
+      sized_few = sized.few
 
-      pub sized-fits : n ≤ length buffer → RoomFor running (take count judged) (length buffer)
-      sized-fits h = let s = sized in (s.events, s.legal, rw (← s.size) h)
+      pub sized_fits : n ≤ length buffer → RoomFor running (take count judged) (length buffer)
+      sized_fits h = let s = sized in (s.events, s.legal, rw (← s.size) h)
 
-      pub sized-full : length buffer < n → list_left running buffer 20 0 ≡ write_list most running judged count buffer
-      sized-full h =
+      pub sized_full : length buffer < n → list_left running buffer 20 0 ≡ write_list most running judged count buffer
+      sized_full h =
           let s = sized in
           sym (write_full most running judged count buffer s.valid s.few s.events s.legal (rw (← s.size) h))
 
-      pub sized-put : n ≤ length buffer → (end : List ℕ) → InFront running (take count judged) buffer end
+      pub sized_put : n ≤ length buffer → (end : List ℕ) → InFront running (take count judged) buffer end
           → record { buffer = end; answer = wrote n; running = after } ≡ write_list most running judged count buffer
-      sized-put h end stands =
+      sized_put h end stands =
           let s = sized in
           let own = encode_list running s.events in
           ap (λ (l : List ℕ). record { buffer = l; answer = wrote n; running = after }) (stands s.events s.legal)
           ∙ ap (λ (k : ℕ). record { buffer = over own buffer 0; answer = wrote k; running = after }) s.size
           ∙ ap (λ (k : ℕ). record { buffer = over own buffer 0; answer = wrote (length own); running = k }) s.after
-          ∙ sym (write-fits most running judged count buffer s.valid s.few s.events s.legal (rw (← s.size) h))
+          ∙ sym (write_fits most running judged count buffer s.valid s.few s.events s.legal (rw (← s.size) h))

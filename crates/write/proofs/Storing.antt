@@ -13,7 +13,7 @@ use Rattle.smf.specs.Place.{Span, bytes_of}
 use Rattle.smf.specs.Number.{encode_number}
 use Rattle.smf.specs.Payload.{encode_payload}
 use Rattle.smf.specs.Write.{Written, over, put, write, payload_bytes}
-use Rattle.smf.proofs.Answer.{by-test}
+use Rattle.smf.proofs.Answer.{by_test}
 use Rattle.smf.proofs.Number.{ahead_none}
 use Rattle.smf.proofs.Write.{over_over, length_over, put_fits, part_bytes, part_length, payload_size}
 use Rattle.write.specs.declared.raw.Channel.{Channel}
@@ -40,13 +40,13 @@ over_hidden s at b bs h some =
 pub over_status : (running status : ℕ) (bs s : List ℕ) (at : ℕ) → at < length s → 0 < length bs
     → over bs (over (status ∷ []) s at) (at + length (status_bytes running status)) ≡ over (status_bytes running status ++ bs) s at
 over_status running status bs s at h some =
-    by-test (eqb running status)
+    by_test (eqb running status)
     (λ t. rw (t, add-zero at) (over_hidden s at status bs h some))
     (λ t. rw t (over_over (status ∷ []) bs s at (omega arith)))
 
 -- a message has some data
 pub data_some : (c : Channel) → 0 < length (data_bytes c)
-data_some c = by-test c.pair (λ t. rw t (omega arith)) (λ t. rw t (omega arith))
+data_some c = by_test c.pair (λ t. rw t (omega arith)) (λ t. rw t (omega arith))
 
 -- bytes, and then more behind them
 pub over_both : {s after : List ℕ} {at next : ℕ} {a : List ℕ} (b : List ℕ) → Stored s at a next after → at ≤ length s → over b after next ≡ over (a ++ b) s at
@@ -76,10 +76,10 @@ module _ (a b s : List ℕ) (at : ℕ) where
   first_room h = omega (arith, length-append a b)
 
   module _ {next : ℕ} {after : List ℕ} (d : Stored s at a next after) (h : at + length (a ++ b) ≤ length s) where
-    pub second-room : next + length b ≤ length after
-    second-room = omega (arith, length-append a b, d.place, stored_length d (first_room h))
+    pub second_room : next + length b ≤ length after
+    second_room = omega (arith, length-append a b, d.place, stored_length d (first_room h))
 
-    pub both-put : (end : List ℕ) → end ≡ over b after next → put (a ++ b) s at ≡ record { buffer = end; answer = gives (at + length (a ++ b)) }
-    both-put end e =
+    pub both_put : (end : List ℕ) → end ≡ over b after next → put (a ++ b) s at ≡ record { buffer = end; answer = gives (at + length (a ++ b)) }
+    both_put end e =
         sym (put_fits (a ++ b) s at h)
         ∙ ap (λ (l : List ℕ). record { buffer = l; answer = gives (at + length (a ++ b)) }) (sym (e ∙ over_both b d (omega arith)))

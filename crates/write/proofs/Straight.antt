@@ -12,7 +12,7 @@ use borrow.Author.Tests.{lt-ltb, ltb-true}
 use Rattle.smf.specs.Answer.{pick, Answer, gives, refuses, and_then, Rules}
 use Rattle.smf.specs.Wire as wire
 use Rattle.smf.specs.Wire.{raw_event}
-use Rattle.smf.proofs.Answer.{by-lt, both}
+use Rattle.smf.proofs.Answer.{by_lt, both}
 use Rattle.rows.specs.Rows.{width}
 use Rattle.rows.specs.RowEvent.{cell, row_kind, row_judged}
 use Rattle.write.specs.Raw.{raw_judged, channel_raw, data_of}
@@ -56,8 +56,8 @@ module _ (rows : List ℕ) (at : ℕ) where
 
   module _ (rules : Rules) (bytes : List ℕ) where
     -- cells within their widths are a legal channel message
-    pub direct-judged : Direct rows at → raw_judged (row_judged rules bytes (take width (drop at rows))) ≡ gives (raw_event (get_or rows at 0) (channel_raw (message_at rows at)))
-    direct-judged d =
+    pub direct_judged : Direct rows at → raw_judged (row_judged rules bytes (take width (drop at rows))) ≡ gives (raw_event (get_or rows at 0) (channel_raw (message_at rows at)))
+    direct_judged d =
         let e1 = cell_at 1 (omega arith) in
         let e2 = cell_at 2 (omega arith) in
         let e3 = cell_at 3 (omega arith) in
@@ -66,21 +66,21 @@ module _ (rows : List ℕ) (at : ℕ) where
         simp (cell_first, e1, e2, e3, e4, lt-ltb _ 16 d.channel, lt-ltb _ 128 d.first, lt-ltb _ 128 d.second) at j
 
     -- a legal row is all there
-    pub judged-there : {e : wire.RawEvent} → raw_judged (row_judged rules bytes (take width (drop at rows))) ≡ gives e → at + width ≤ length rows
-    judged-there j = by-lt (length rows) (at + width) (λ h. never (row_short rules bytes rows at h) j) (λ h. h)
+    pub judged_there : {e : wire.RawEvent} → raw_judged (row_judged rules bytes (take width (drop at rows))) ≡ gives e → at + width ≤ length rows
+    judged_there j = by_lt (length rows) (at + width) (λ h. never (row_short rules bytes rows at h) j) (λ h. h)
 
     -- and a legal channel message's cells are within their widths
-    pub judged-direct : {e : wire.RawEvent} → raw_judged (row_judged rules bytes (take width (drop at rows))) ≡ gives e → get_or rows (at + 1) 0 < 15 → Direct rows at
-    judged-direct j high =
+    pub judged_direct : {e : wire.RawEvent} → raw_judged (row_judged rules bytes (take width (drop at rows))) ≡ gives e → get_or rows (at + 1) 0 < 15 → Direct rows at
+    judged_direct j high =
         let r = take width (drop at rows) in
         let e1 = cell_at 1 (omega arith) in
         let e2 = cell_at 2 (omega arith) in
         let e3 = cell_at 3 (omega arith) in
         let e4 = cell_at 4 (omega arith) in
-        let there = judged-there j in
+        let there = judged_there j in
         let long = row_long there in
-        let narrow : cell r 0 < 2 ^ 28 = by-lt (cell r 0) (2 ^ 28) (λ h. h) (λ h. never (row_wide rules bytes r h) j) in
-        let low : 8 ≤ cell r 1 = by-lt (cell r 1) 8 (λ h. never (row_low rules bytes r long narrow h) j) (λ h. h) in
+        let narrow : cell r 0 < 2 ^ 28 = by_lt (cell r 0) (2 ^ 28) (λ h. h) (λ h. never (row_wide rules bytes r h) j) in
+        let low : 8 ≤ cell r 1 = by_lt (cell r 1) 8 (λ h. never (row_low rules bytes r long narrow h) j) (λ h. h) in
         let x = data_of (cell r 1) (cell r 3) (cell r 4) in
         let made =
         made_of (ltb (cell r 2) 16 && (ltb x.a 128 && ltb x.b 128)) (channel_raw (packed_of (cell r 1) (cell r 2) x)) 18 (λ (raw : wire.Raw). raw_event (cell r 0) raw)
@@ -99,7 +99,7 @@ module _ (rows : List ℕ) (at : ℕ) where
         }
 
     -- which is what it was given as
-    pub judged-message : {e : wire.RawEvent} → raw_judged (row_judged rules bytes (take width (drop at rows))) ≡ gives e → get_or rows (at + 1) 0 < 15 → e ≡ raw_event (get_or rows at 0) (channel_raw (message_at rows at))
-    judged-message {e} j high =
-        let q : gives e ≡ gives (raw_event (get_or rows at 0) (channel_raw (message_at rows at))) = sym j ∙ direct-judged (judged-direct j high) in
+    pub judged_message : {e : wire.RawEvent} → raw_judged (row_judged rules bytes (take width (drop at rows))) ≡ gives e → get_or rows (at + 1) 0 < 15 → e ≡ raw_event (get_or rows at 0) (channel_raw (message_at rows at))
+    judged_message {e} j high =
+        let q : gives e ≡ gives (raw_event (get_or rows at 0) (channel_raw (message_at rows at))) = sym j ∙ direct_judged (judged_direct j high) in
         cc

@@ -61,8 +61,8 @@ module _ (running : ℕ) (js : List (Answer (Event (List ℕ)))) (before : List 
     abbrev front : ℕ → List ℕ
     front k = encode_list running (take k g.events)
 
-    front-shorter : (k : ℕ) → length (front k) ≤ length (encode_list running g.events)
-    front-shorter k =
+    front_shorter : (k : ℕ) → length (front k) ≤ length (encode_list running g.events)
+    front_shorter k =
         let es = g.events in
         let long = ap length (ap (encode_list running) (sym (take-append-drop k es)) ∙ encode_append running (take k es) (drop k es)) in
         omega (arith, long, length-append (front k) (encode_list (list_after running (take k es)) (drop k es)))
@@ -70,11 +70,11 @@ module _ (running : ℕ) (js : List (Answer (Event (List ℕ)))) (before : List 
     counted : length js ≡ length g.events
     counted = ap length g.legal ∙ given_length g.events
 
-    pub going-length : length out ≡ length before
-    going-length = ap length g.buffer ∙ length_over (front i) before 0 (omega (arith, front-shorter i, g.room))
+    pub going_length : length out ≡ length before
+    going_length = ap length g.buffer ∙ length_over (front i) before 0 (omega (arith, front_shorter i, g.room))
 
-    pub going-last : i ≡ length js → InFront running js before out
-    going-last e es same =
+    pub going_last : i ≡ length js → InFront running js before out
+    going_last e es same =
         let all : take i g.events ≡ es = ap (λ (k : ℕ). take k g.events) (e ∙ counted) ∙ take-length g.events ∙ given_once g.events es (sym g.legal ∙ same) in
         g.buffer ∙ ap (λ (l : List (Event (List ℕ))). over (encode_list running l) before 0) all
 
@@ -94,12 +94,12 @@ module _ (running : ℕ) (js : List (Answer (Event (List ℕ)))) (before : List 
       long = ap length onward ∙ length-append (front i) (encode_event status whole)
 
       fits : place + length (encode_event status whole) ≤ length out
-      fits = omega (arith, going-length, g.stands, long, front-shorter (i + 1), g.room)
+      fits = omega (arith, going_length, g.stands, long, front_shorter (i + 1), g.room)
 
       -- it was judged legal, and has room
-      pub going-room : RoomAt status (raw_judged j) place (length out)
+      pub going_room : RoomAt status (raw_judged j) place (length out)
       unfolding whole encode_event raw_judged
-      going-room = (raw_event whole.delta (raw_of whole.kind), ap raw_judged next.1, fits)
+      going_room = (raw_event whole.delta (raw_of whole.kind), ap raw_judged next.1, fits)
 
       -- and is written
       module _ (r : WroteEvent) (end : List ℕ) (e : wrote_event r end ≡ write_raw status (raw_judged j) out place) where
@@ -112,8 +112,8 @@ module _ (running : ℕ) (js : List (Answer (Event (List ℕ)))) (before : List 
             ∙ ap (λ (y : Answer (Event (List ℕ))). write_raw status (raw_judged y) out place) next.1
             ∙ sym (ap (event_written status (event_after whole)) (put_fits (encode_event status whole) out place fits))
 
-        pub going-never : (n : WriteRefused) → r ≡ wrote.Refused n → ⊥
-        going-never n h =
+        pub going_never : (n : WriteRefused) → r ≡ wrote.Refused n → ⊥
+        going_never n h =
             let q = ap (λ (w : EventWritten). w.written.answer) (sym (ap (λ (x : WroteEvent). wrote_event x end) h) ∙ is) in
             let z : ◌≡◌ {A = ℕ} 0 1 = cc in
             omega arith

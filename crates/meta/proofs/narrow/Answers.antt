@@ -9,7 +9,7 @@ use Rattle.smf.specs.Answer.{pick}
 use Rattle.smf.specs.Place.{Span}
 use Rattle.smf.specs.Kind.{midi_channel, midi_port}
 use Rattle.smf.specs.Event.{map_meta}
-use Rattle.smf.proofs.CalledAt.{short, fits_low, fits-lenient, fits-strict}
+use Rattle.smf.proofs.CalledAt.{short, fits_low, fits_lenient, fits_strict}
 use Rattle.base.specs.Rules.{rules_of}
 use Rattle.number.specs.Payload.{payload_of}
 use Rattle.meta.specs.Meta.{span_of}
@@ -37,7 +37,7 @@ returns-then-byte-limit c =
 pub returns-then-rules : goal.returns-then-rules
 returns-then-rules c =
     let t = c.args.type_byte in
-    fits-strict (rules_of c.args.rules) c.args.raw.now (λ i. (c.type_inv.raw i).fits) (payload_of c.args.load) c.requires.0 t c.args.limit (λ n. pick (eqb t 0x20) (midi_channel n) (midi_port n)) (form_narrow c.requires.1 _ _) c.if-range-lt1.false c.if-byte-limit.false c.if-rules.true
+    fits_strict (rules_of c.args.rules) c.args.raw.now (λ i. (c.type_inv.raw i).fits) (payload_of c.args.load) c.requires.0 t c.args.limit (λ n. pick (eqb t 0x20) (midi_channel n) (midi_port n)) (form_narrow c.requires.1 _ _) c.if-range-lt1.false c.if-byte-limit.false c.if-rules.true
 
 pub nonzero_rem-byte : goal.nonzero_rem-byte
 nonzero_rem-byte c = omega (arith, limit_some c.requires.1)
@@ -47,4 +47,4 @@ returns c =
     let t = c.args.type_byte in
     c.message-2.ensures
     ∙ rw (c.narrow_kind-2.ensures, ← kept (span_of c.args.load.range) (eqb t 0x20))
-    (fits-lenient (rules_of c.args.rules) c.args.raw.now (λ i. (c.type_inv.raw i).fits) (payload_of c.args.load) c.requires.0 t c.args.limit (λ n. pick (eqb t 0x20) (midi_channel n) (midi_port n)) (form_narrow c.requires.1 _ _) c.if-range-lt1.false c.if-byte-limit.false c.if-rules.false)
+    (fits_lenient (rules_of c.args.rules) c.args.raw.now (λ i. (c.type_inv.raw i).fits) (payload_of c.args.load) c.requires.0 t c.args.limit (λ n. pick (eqb t 0x20) (midi_channel n) (midi_port n)) (form_narrow c.requires.1 _ _) c.if-range-lt1.false c.if-byte-limit.false c.if-rules.false)

@@ -4,7 +4,7 @@ use native.Mathlib.Omega.{arith}
 use Rattle.loader.specs.Entry.{from_bits}
 use Rattle.track.specs.List.{capacity}
 use Rattle.bank.specs.Bank.{most_tracks}
-use Rattle.bank.proofs.Answered.{said_within, said-unlisted, said-listed, range_bytes}
+use Rattle.bank.proofs.Answered.{said_within, said_unlisted, said_listed, range_bytes}
 use Rattle.bank.proofs.entries.apk_bank_list.Goals as goal
 
 pub overflow_add-end : goal.overflow_add-end
@@ -23,10 +23,10 @@ pub returns-in-Refused : goal.returns-in-Refused
 returns-in-Refused c =
     let a = c.args in
     let t = c.bank_track in
-    rw (said-unlisted most_tracks a.block.now a.index t.result t.ensures (from_bits a.bits) capacity _ c.in-Refused.is) (record { answer = c.number.ensures; rows = refl; count = refl; place = refl; after = refl; padding = refl })
+    rw (said_unlisted most_tracks a.block.now a.index t.result t.ensures (from_bits a.bits) capacity _ c.in-Refused.is) (record { answer = c.number.ensures; rows = refl; count = refl; place = refl; after = refl; padding = refl })
 
 pub returns-in-Track : goal.returns-in-Track
 returns-in-Track c =
     let a = c.args in
     let t = c.bank_track in
-    rw (said-listed most_tracks a.block.now a.index t.result t.ensures (from_bits a.bits) capacity _ c.in-Track.is, ← range_bytes a.block.now c.in-Track.range) c.apk_list_read.ensures
+    rw (said_listed most_tracks a.block.now a.index t.result t.ensures (from_bits a.bits) capacity _ c.in-Track.is, ← range_bytes a.block.now c.in-Track.range) c.apk_list_read.ensures

@@ -5,7 +5,7 @@ use borrow.Author.Rules.{rules}
 use lib.ListN.{length}
 use Rattle.track.proofs.Held.{unmapped}
 use Rattle.bank.specs.Bank.{most_tracks}
-use Rattle.bank.proofs.Cells.{cells_first, cells-more, cells-all}
+use Rattle.bank.proofs.Cells.{cells_first, cells_more, cells_all}
 use Rattle.bank.proofs.entries.cells_of.Goals as goal
 
 pub loop-index-init : goal.loop-index-init
@@ -15,10 +15,10 @@ pub loop-index-preserved : goal.loop-index-preserved
 loop-index-preserved c =
     let i = c.loop-index.invariant in
     let size : length c.args.bank.tracks ≡ most_tracks = search (rules, unmapped) in
-    (i.0, cells-more _ _ i.0 i.1 _ (omega arith))
+    (i.0, cells_more _ _ i.0 i.1 _ (omega arith))
 
 pub returns : goal.returns
 returns c =
     let i = c.loop-index.invariant in
     let size : length c.args.bank.tracks ≡ most_tracks = search (rules, unmapped) in
-    cells-all _ _ i.0 i.1 (omega arith)
+    cells_all _ _ i.0 i.1 (omega arith)

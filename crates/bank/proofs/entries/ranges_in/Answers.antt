@@ -3,7 +3,7 @@ use mathlib.Core.Path.{◌≡◌, refl}
 use native.Mathlib.Omega.{arith}
 use Rattle.bank.specs.Bank.{most_tracks}
 use Rattle.bank.specs.Entries.{range_in}
-use Rattle.bank.proofs.Filling.{filled_none, filled_more, filled-all}
+use Rattle.bank.proofs.Filling.{filled_none, filled_more, filled_all}
 use Rattle.bank.proofs.entries.ranges_in.Goals as goal
 
 pub loop-index-init : goal.loop-index-init
@@ -17,4 +17,4 @@ pub returns : goal.returns
 returns c =
     let l = c.loop-index in
     let end : l.index ≡ most_tracks = omega (arith, l.invariant.0) in
-    filled-all _ most_tracks l.ranges (rw end at l.invariant.1)
+    filled_all _ most_tracks l.ranges (rw end at l.invariant.1)

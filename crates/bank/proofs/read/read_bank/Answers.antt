@@ -9,7 +9,7 @@ use Rattle.smf.specs.Place.{Span}
 use Rattle.bank.specs.Bank.{most_tracks, behind_entries}
 use Rattle.bank.specs.Read.{entry_at, ranges, no_gap}
 use Rattle.bank.specs.Answers.{BankAnswer, bank_answer}
-use Rattle.bank.proofs.Tested.{no_count, many, short, large, other-total, walked}
+use Rattle.bank.proofs.Tested.{no_count, many, short, large, other_total, walked}
 use Rattle.bank.proofs.read.read_bank.Goals as goal
 
 -- what is asked, by the answer of the definition
@@ -41,7 +41,7 @@ returns-then-wide_at-size c =
     let a = c.args in
     let w = c.wide_at-count.ensures.0 in
     c.refused-then-wide_at-size.ensures
-    ∙ ap asked (sym (other-total most_tracks a.block.now (omega arith) (omega (arith, w)) (omega (arith, w)) (omega arith) (λ e. c.if-wide_at-size.true (c.wide_at.ensures.0 ∙ e))))
+    ∙ ap asked (sym (other_total most_tracks a.block.now (omega arith) (omega (arith, w)) (omega (arith, w)) (omega arith) (λ e. c.if-wide_at-size.true (c.wide_at.ensures.0 ∙ e))))
 
 pub returns : goal.returns
 returns c =

@@ -2,7 +2,7 @@
 use mathlib.Core.Path.{refl, sym, ◌∙◌}
 use native.Mathlib.Omega.{arith}
 use Rattle.bank.specs.Bank.{most_tracks}
-use Rattle.bank.proofs.Gaps.{walked_first, walked-length, walked-apart, walked_more, walked-short, walked_all}
+use Rattle.bank.proofs.Gaps.{walked_first, walked_length, walked_apart, walked_more, walked_short, walked_all}
 use Rattle.bank.proofs.read.read_tracks.Goals as goal
 
 pub loop-index-init : goal.loop-index-init
@@ -15,7 +15,7 @@ pub returns-then-wide_at-place : goal.returns-then-wide_at-place
 returns-then-wide_at-place c =
     let w = c.loop-index.invariant.1 in
     let a = c.args in
-    c.refused.ensures ∙ walked-apart most_tracks a.count _ a.block.now w (omega arith) (λ e. c.if-wide_at-place.true (c.wide_at.ensures.0 ∙ e))
+    c.refused.ensures ∙ walked_apart most_tracks a.count _ a.block.now w (omega arith) (λ e. c.if-wide_at-place.true (c.wide_at.ensures.0 ∙ e))
 
 pub wide_at-length-requires : goal.wide_at-length-requires
 wide_at-length-requires c = omega (arith, c.requires.count_in_bounds)
@@ -24,7 +24,7 @@ pub bounds-tracks-index : goal.bounds-tracks-index
 bounds-tracks-index c =
     let l = c.loop-index in
     let a = c.args in
-    omega (arith, walked-length most_tracks a.count l.invariant.0 a.block.now l.invariant.1, l.invariant.0)
+    omega (arith, walked_length most_tracks a.count l.invariant.0 a.block.now l.invariant.1, l.invariant.0)
 
 pub overflow_add-place-in-loop-index : goal.overflow_add-place-in-loop-index
 overflow_add-place-in-loop-index c = let l = c.loop-index in omega (arith, l.invariant.1.small, l.invariant.1.within, l.invariant.0, c.wide_at-length.ensures.1)
@@ -39,7 +39,7 @@ pub returns-then-place-block : goal.returns-then-place-block
 returns-then-place-block c =
     let l = c.loop-index in
     let a = c.args in
-    c.refused-then-place-block.ensures ∙ walked-short most_tracks a.count l.invariant.0 a.block.now l.invariant.1 (omega arith) (λ e. c.if-place-block.true e)
+    c.refused-then-place-block.ensures ∙ walked_short most_tracks a.count l.invariant.0 a.block.now l.invariant.1 (omega arith) (λ e. c.if-place-block.true e)
 
 pub returns : goal.returns
 returns c =

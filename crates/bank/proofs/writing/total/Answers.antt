@@ -6,7 +6,7 @@ use Prim.Native.Nat.{◌≤◌}
 use lib.ListN.{length}
 use Rattle.bank.specs.Bank.{most_tracks, bank_length}
 use Rattle.bank.specs.Write.{tracks_of}
-use Rattle.bank.proofs.Rest.{counted, rest_first, rest_more, rest-bound, rest_end}
+use Rattle.bank.proofs.Rest.{counted, rest_first, rest_more, rest_bound, rest_end}
 use Rattle.bank.proofs.Measured.{measured_over, measured_fits}
 use Rattle.bank.proofs.writing.total.Goals as goal
 
@@ -20,7 +20,7 @@ pub returns-then-sum-range : goal.returns-then-sum-range
 returns-then-sum-range c =
     let a = c.args in
     let i = c.loop-index.invariant in
-    measured_over (bank_length (tracks_of a.bytes.now (counted a.bytes.now a.ranges a.count))) (omega (arith, rest-bound a.bytes.now a.ranges a.count i.0 i.1.0 (record { start = 0; length = 0 }) c.loop-index-test.true, i.1.1))
+    measured_over (bank_length (tracks_of a.bytes.now (counted a.bytes.now a.ranges a.count))) (omega (arith, rest_bound a.bytes.now a.ranges a.count i.0 i.1.0 (record { start = 0; length = 0 }) c.loop-index-test.true, i.1.1))
 
 pub overflow_add-sum-in-loop-index : goal.overflow_add-sum-in-loop-index
 overflow_add-sum-in-loop-index c = let i = c.loop-index.invariant in omega (arith, i.1.1)

@@ -4,7 +4,7 @@ use native.Mathlib.Omega.{arith}
 use Prim.Native.Nat.{◌+◌, ◌<◌}
 use lib.ListN.{length}
 use Rattle.smf.specs.Wire.{data_length}
-use Rattle.smf.proofs.Reading.{channel_length, data_some, data_short, data_top, data_one, data-more, data-second-top, data-two}
+use Rattle.smf.proofs.Reading.{channel_length, data_some, data_short, data_top, data_one, data_more, data_second_top, data_two}
 use Rattle.base.specs.Rules.{rules_of}
 use Rattle.event.specs.Begun.{delta_of}
 use Rattle.event.proofs.read.channel.Goals as goal
@@ -19,7 +19,7 @@ more : (c : Else-len-eq1) → c.args.at + 1 < length c.args.raw.now
 more c =
     let a = c.args in
     let length-is : c.msg_length-len.result ≡ data_length a.status = c.msg_length-len.ensures ∙ channel_length a.status c.requires.1 c.requires.2 in
-    data-more (rules_of a.rules) a.raw.now a.begun.start a.at a.status (delta_of a.begun) c.requires.0 (omega (arith, length-is, c.bytes_from.ensures, c.if-bytes_from-len.false)) (λ e. c.if-len-eq1.false (length-is ∙ e)) c.if-first-ge128.false
+    data_more (rules_of a.rules) a.raw.now a.begun.start a.at a.status (delta_of a.begun) c.requires.0 (omega (arith, length-is, c.bytes_from.ensures, c.if-bytes_from-len.false)) (λ e. c.if-len-eq1.false (length-is ∙ e)) c.if-first-ge128.false
 
 pub returns-then-bytes_from-len : goal.returns-then-bytes_from-len
 returns-then-bytes_from-len c =
@@ -52,7 +52,7 @@ pub returns-then-second-ge128 : goal.returns-then-second-ge128
 returns-then-second-ge128 c =
     let a = c.args in
     c.refused-then-second-ge128.ensures
-    ∙ data-second-top (rules_of a.rules) a.raw.now a.begun.start a.at a.status (delta_of a.begun) c.requires.0 (omega (arith, len (goal.at.returns-then-second-ge128 c).After-msg_length-len, c.bytes_from.ensures, c.if-bytes_from-len.false)) (λ e. c.if-len-eq1.false (len (goal.at.returns-then-second-ge128 c).After-msg_length-len ∙ e)) c.if-first-ge128.false c.if-second-ge128.true
+    ∙ data_second_top (rules_of a.rules) a.raw.now a.begun.start a.at a.status (delta_of a.begun) c.requires.0 (omega (arith, len (goal.at.returns-then-second-ge128 c).After-msg_length-len, c.bytes_from.ensures, c.if-bytes_from-len.false)) (λ e. c.if-len-eq1.false (len (goal.at.returns-then-second-ge128 c).After-msg_length-len ∙ e)) c.if-first-ge128.false c.if-second-ge128.true
 
 pub overflow_add-at-2 : goal.overflow_add-at-2
 overflow_add-at-2 c = omega (arith, more (goal.at.overflow_add-at-2 c).Else-len-eq1)
@@ -61,4 +61,4 @@ pub returns : goal.returns
 returns c =
     let a = c.args in
     c.event-2.ensures
-    ∙ rw c.read-message-2.ensures (data-two (rules_of a.rules) a.raw.now a.begun.start a.at a.status (delta_of a.begun) c.requires.0 (omega (arith, len (goal.at.returns c).After-msg_length-len, c.bytes_from.ensures, c.if-bytes_from-len.false)) (λ e. c.if-len-eq1.false (len (goal.at.returns c).After-msg_length-len ∙ e)) c.if-first-ge128.false c.if-second-ge128.false)
+    ∙ rw c.read-message-2.ensures (data_two (rules_of a.rules) a.raw.now a.begun.start a.at a.status (delta_of a.begun) c.requires.0 (omega (arith, len (goal.at.returns c).After-msg_length-len, c.bytes_from.ensures, c.if-bytes_from-len.false)) (λ e. c.if-len-eq1.false (len (goal.at.returns c).After-msg_length-len ∙ e)) c.if-first-ge128.false c.if-second-ge128.false)

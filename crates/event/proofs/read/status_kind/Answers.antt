@@ -3,7 +3,7 @@ use mathlib.Core.Path.{◌∙◌}
 use Rattle.std.proofs.Common.{◌≢◌, arith}
 use lib.ListN.{drop}
 use Rattle.smf.specs.Event.{placed, name_raw}
-use Rattle.smf.proofs.Reading.{status_meta, status_payload, status-common, status-realtime}
+use Rattle.smf.proofs.Reading.{status_meta, status_payload, status_common, status_realtime}
 use Rattle.base.specs.Rules.{rules_of}
 use Rattle.event.specs.Begun.{delta_of}
 use Rattle.event.proofs.read.status_kind.Goals as goal
@@ -15,7 +15,7 @@ returns-then-status-lt247 c =
     let not-240 : a.status ≢ 240 = grind arith in
     let not-247 : a.status ≢ 247 = grind arith in
     c.refused.ensures
-    ∙ rw (status-common (rules_of a.rules) a.running.status (delta_of a.begun) a.status (drop a.at a.raw.now) c.requires.3 (omega arith) not-240 not-247 c.if-status-lt247.true)
+    ∙ rw (status_common (rules_of a.rules) a.running.status (delta_of a.begun) a.status (drop a.at a.raw.now) c.requires.3 (omega arith) not-240 not-247 c.if-status-lt247.true)
 
 pub returns-in-255 : goal.returns-in-255
 returns-in-255 c =
@@ -36,4 +36,4 @@ returns-else-status-lt247 c =
     let not-240 : a.status ≢ 240 = grind arith in
     let not-247 : a.status ≢ 247 = grind arith in
     c.refused-in_default.ensures
-    ∙ rw (status-realtime (rules_of a.rules) a.running.status (delta_of a.begun) a.status (drop a.at a.raw.now) c.requires.3 (omega arith) not-240 not-247 c.if-status-lt247.false)
+    ∙ rw (status_realtime (rules_of a.rules) a.running.status (delta_of a.begun) a.status (drop a.at a.raw.now) c.requires.3 (omega arith) not-240 not-247 c.if-status-lt247.false)

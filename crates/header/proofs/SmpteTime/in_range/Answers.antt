@@ -3,7 +3,7 @@ use mathlib.Core.Path.{sym, ◌∙◌}
 use Prim.Native.Nat.{◌<◌}
 use native.Mathlib.Omega.{arith}
 use borrow.Author.Tests.{lt-ltb, le-ltb}
-use Rattle.smf.proofs.Answer.{by-lt}
+use Rattle.smf.proofs.Answer.{by_lt}
 use Rattle.smf.proofs.Smpte.{is_time_lem, out_of_range}
 use Rattle.base.specs.Rules.{rules_of}
 use Rattle.header.specs.Smpte.{smpte_time_of}
@@ -37,7 +37,7 @@ pub returns : goal.returns
 returns c =
     let args = c.args in
     let time = args.self in
-    by-lt time.subframe 100
+    by_lt time.subframe 100
     (λ h. lt-ltb _ _ h ∙ sym (is_time_lem (rules_of args.rules) (smpte_time_of time) (record {
       rated = (rated time.fps).is;
       hour-below = omega arith;

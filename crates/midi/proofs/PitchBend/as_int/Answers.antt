@@ -17,12 +17,12 @@ made raw h =
     let fits : SFits w16 (bend_of raw) = record { sfits = omega (arith, bend_mag raw h) } in
     rw (less raw h) (to_z-of_z {w = w16} fits)
 
-in-width : (c : Then-raw-le16383) → c.args.self.0.0 < 2 ^ 14
-in-width c = omega arith
+in_width : (c : Then-raw-le16383) → c.args.self.0.0 < 2 ^ 14
+in_width c = omega arith
 
 pub returns-then-raw-le16383 : goal.returns-then-raw-le16383
 returns-then-raw-le16383 c =
-    let width = in-width (goal.at.returns-then-raw-le16383 c).Then-raw-le16383 in
+    let width = in_width (goal.at.returns-then-raw-le16383 c).Then-raw-le16383 in
     rw c.as_int-raw.ensures (ap gives (made c.args.self.0.0 width) ∙ ask_in c.args.self.0.0 width)
 
 pub returns-else-raw-le16383 : goal.returns-else-raw-le16383

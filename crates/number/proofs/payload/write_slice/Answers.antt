@@ -2,7 +2,7 @@
 use mathlib.Core.Path.{sym, ◌∙◌}
 use native.Mathlib.Omega.{arith}
 use Rattle.smf.specs.Place.{bytes_of}
-use Rattle.smf.proofs.Write.{inside_within, slice_outside, slice-full, slice_fits}
+use Rattle.smf.proofs.Write.{inside_within, slice_outside, slice_full, slice_fits}
 use Rattle.number.proofs.payload.write_slice.Goals as goal
 
 pub returns-then-not-is_inside : goal.returns-then-not-is_inside
@@ -13,12 +13,12 @@ returns-then-not-is_inside c =
 pub returns-then-out-n : goal.returns-then-out-n
 returns-then-out-n c =
     let a = c.args in
-    slice-full a.bytes.now _ a.out.now a.at (sym c.is_inside.ensures ∙ c.if-not-is_inside.false) (omega arith)
+    slice_full a.bytes.now _ a.out.now a.at (sym c.is_inside.ensures ∙ c.if-not-is_inside.false) (omega arith)
 
 pub returns-then-out-n-2 : goal.returns-then-out-n-2
 returns-then-out-n-2 c =
     let a = c.args in
-    slice-full a.bytes.now _ a.out.now a.at (sym c.is_inside.ensures ∙ c.if-not-is_inside.false) (omega arith)
+    slice_full a.bytes.now _ a.out.now a.at (sym c.is_inside.ensures ∙ c.if-not-is_inside.false) (omega arith)
 
 pub copy_part-requires : goal.copy_part-requires
 copy_part-requires c =

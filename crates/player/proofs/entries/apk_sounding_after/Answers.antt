@@ -5,7 +5,7 @@ use Rattle.track.specs.List.{capacity, record_of}
 use Rattle.player.specs.Table.{Table}
 use Rattle.player.specs.Widths.{accepted}
 use Rattle.player.specs.Answers.{table_beside}
-use Rattle.player.proofs.Entered.{rows_many, rows_none, rows_above, rows-entered}
+use Rattle.player.proofs.Entered.{rows_many, rows_none, rows_above, rows_entered}
 use Rattle.player.proofs.entries.apk_sounding_after.Goals as goal
 
 pub returns-then-count-gt-CAPACITY : goal.returns-then-count-gt-CAPACITY
@@ -22,4 +22,4 @@ returns-then-answer-ne0-2 c =
 pub returns : goal.returns
 returns c =
     let played = c.after-left.ensures ∙ ap (λ (t : Table). table_beside t (accepted capacity (map record_of c.list_in-list.result.records) c.list_in-list.result.count)) c.table_in.ensures in
-    rows-entered _ _ _ _ c.if-count-gt-CAPACITY.false _ _ c.list_in-list.ensures c.if-answer-ne0.false _ _ played c.if-answer-ne0-2.false _ c.bytes_in.ensures
+    rows_entered _ _ _ _ c.if-count-gt-CAPACITY.false _ _ c.list_in-list.ensures c.if-answer-ne0.false _ _ played c.if-answer-ne0-2.false _ c.bytes_in.ensures

@@ -3,7 +3,7 @@ use mathlib.Core.Path.{sym, ap, ◌∙◌}
 use native.Mathlib.Omega.{arith}
 use Rattle.rows.specs.RowAnswer.{row_answer}
 use Rattle.rows.proofs.IsRow.{is_event, is_none}
-use Rattle.player.proofs.Taking.{taking_first, taking-none, taking-all, taking-more}
+use Rattle.player.proofs.Taking.{taking_first, taking_none, taking_all, taking_more}
 use Rattle.player.proofs.entries.list_in.Goals as goal
 
 pub loop-left-init : goal.loop-left-init
@@ -12,7 +12,7 @@ loop-left-init c = taking_first _ _ _ _ _ c.new-list.ensures
 pub returns-in-Refused : goal.returns-in-Refused
 returns-in-Refused c =
     let none = is_none _ (sym c.row_event_at.ensures ∙ ap row_answer c.in-Refused.is) in
-    rw (c.number.ensures, none.1, c.new.ensures) (taking-none _ _ _ c.loop-left.invariant c.loop-left-test.true none.0)
+    rw (c.number.ensures, none.1, c.new.ensures) (taking_none _ _ _ c.loop-left.invariant c.loop-left-test.true none.0)
 
 pub offset_bounds-list-index : goal.offset_bounds-list-index
 offset_bounds-list-index c =
@@ -29,7 +29,7 @@ overflow_add-at c =
 pub loop-left-preserved : goal.loop-left-preserved
 loop-left-preserved c =
     let one = is_event _ (sym c.row_event_at.ensures ∙ ap row_answer c.in-Event.is) in
-    taking-more _ _ _ c.loop-left.invariant c.loop-left-test.true c.requires one.0 c.recorded-kept.result (one.1 ∙ sym c.recorded-kept.ensures)
+    taking_more _ _ _ c.loop-left.invariant c.loop-left-test.true c.requires one.0 c.recorded-kept.result (one.1 ∙ sym c.recorded-kept.ensures)
 
 pub returns : goal.returns
-returns c = taking-all _ _ _ c.loop-left.invariant c.loop-left-test.false
+returns c = taking_all _ _ _ c.loop-left.invariant c.loop-left-test.false

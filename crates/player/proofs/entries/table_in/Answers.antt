@@ -2,7 +2,7 @@
 use mathlib.Core.Path.{subst, sym}
 use Rattle.player.specs.Table.{fresh}
 use Rattle.player.proofs.Tables.{Shaped, shaped_of}
-use Rattle.player.proofs.TablesIn.{filled_first, filled_more, filled-all}
+use Rattle.player.proofs.TablesIn.{filled_first, filled_more, filled_all}
 use Rattle.player.proofs.entries.table_in.Goals as goal
 
 pub loop-place-init : goal.loop-place-init
@@ -13,4 +13,4 @@ pub loop-place-preserved : goal.loop-place-preserved
 loop-place-preserved c = filled_more _ c.loop-place.invariant c.loop-place-test.true
 
 pub returns : goal.returns
-returns c = filled-all _ c.loop-place.invariant c.loop-place-test.false
+returns c = filled_all _ c.loop-place.invariant c.loop-place-test.false

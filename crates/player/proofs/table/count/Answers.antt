@@ -4,7 +4,7 @@ use Prim.Native.Nat.{◌<◌}
 use native.Mathlib.Omega.{arith}
 use borrow.Author.Rules.{rules}
 use lib.ListN.{length}
-use Rattle.player.proofs.Counting.{is_silent, is_sounding, counted_first, counted-silent, counted-sounding, counted-all}
+use Rattle.player.proofs.Counting.{is_silent, is_sounding, counted_first, counted_silent, counted_sounding, counted_all}
 use Rattle.player.proofs.table.count.Goals as goal
 use Rattle.player.proofs.table.count.Goals.{then-sounds, else-sounds}
 
@@ -19,9 +19,9 @@ loop-key-preserved c =
     let l = c.loop-key in
     let more : l.key < length c.args.channel = search rules in
     elim c.if-sounds.branch [
-      | then-sounds w ↦ rw w.sounding-is (counted-sounding _ l.invariant more (is_sounding _ (sym c.sounds.ensures ∙ w.if-sounds.true)))
-      | else-sounds w ↦ rw w.sounding-is (counted-silent _ l.invariant more (is_silent _ (sym c.sounds.ensures ∙ w.if-sounds.false)))
+      | then-sounds w ↦ rw w.sounding-is (counted_sounding _ l.invariant more (is_sounding _ (sym c.sounds.ensures ∙ w.if-sounds.true)))
+      | else-sounds w ↦ rw w.sounding-is (counted_silent _ l.invariant more (is_silent _ (sym c.sounds.ensures ∙ w.if-sounds.false)))
     ]
 
 pub returns : goal.returns
-returns c = counted-all _ c.loop-key.invariant (search rules)
+returns c = counted_all _ c.loop-key.invariant (search rules)

@@ -2,11 +2,11 @@
 use mathlib.Core.Path.{◌∙◌}
 use Rattle.player.proofs.Arrays.{shaped_array}
 use Rattle.player.proofs.Counting.{counts_stored}
-use Rattle.player.proofs.Stored.{stored_more, stored-all}
+use Rattle.player.proofs.Stored.{stored_more, stored_all}
 use Rattle.player.proofs.table.counts.Goals as goal
 
 pub loop-channel-preserved : goal.loop-channel-preserved
 loop-channel-preserved c = stored_more _ _ c.loop-channel.invariant c.loop-channel-test.true _ c.count.ensures
 
 pub returns : goal.returns
-returns c = stored-all _ _ c.loop-channel.invariant c.loop-channel-test.false ∙ counts_stored (shaped_array _ _ c.well_formed.0)
+returns c = stored_all _ _ c.loop-channel.invariant c.loop-channel-test.false ∙ counts_stored (shaped_array _ _ c.well_formed.0)

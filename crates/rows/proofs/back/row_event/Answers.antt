@@ -3,7 +3,7 @@ use mathlib.Core.Path.{◌≡◌, sym, ◌∙◌}
 use lib.ListN.{length}
 use Rattle.rows.specs.Rows.{width}
 use Rattle.rows.specs.RowEvent.{called_row}
-use Rattle.rows.proofs.IsRow.{delta_above, fields-above, all_fit}
+use Rattle.rows.proofs.IsRow.{delta_above, fields_above, all_fit}
 use borrow.Author.Rules.{rules}
 use Rattle.rows.proofs.back.row_event.Goals as goal
 
@@ -18,7 +18,7 @@ returns-then-not-fields_fit c =
     let f = c.fields_fit in
     let r = c.args.row in
     let l : length r ≡ width = search rules in
-    fields-above r l c.if-delta-ge4294967296.false (sym f.ensures ∙ c.if-not-fields_fit.true)
+    fields_above r l c.if-delta-ge4294967296.false (sym f.ensures ∙ c.if-not-fields_fit.true)
 
 pub kind-requires : goal.kind-requires
 kind-requires c =

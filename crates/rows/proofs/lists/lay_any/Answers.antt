@@ -10,7 +10,7 @@ use Rattle.track.specs.Cursor.{reader_of, next_of}
 use Rattle.track.specs.List.{capacity}
 use Rattle.rows.specs.Rows.{width}
 use Rattle.rows.specs.Read.{goes, laid_next}
-use Rattle.rows.proofs.RowCells.{next-room}
+use Rattle.rows.proofs.RowCells.{next_room}
 use Rattle.rows.proofs.lists.lay_any.Goals as goal
 use Rattle.rows.proofs.lists.lay_any.Goals.{In-Event}
 
@@ -18,7 +18,7 @@ use Rattle.rows.proofs.lists.lay_any.Goals.{In-Event}
 room : (c : In-Event) → c.args.cursor.count < capacity
 room c =
     let a = c.args in
-    next-room (rules_of a.rules) capacity a.raw.now (reader_of a.cursor) (sym c.next.ensures ∙ ap next_of c.in-Event.is)
+    next_room (rules_of a.rules) capacity a.raw.now (reader_of a.cursor) (sym c.next.ensures ∙ ap next_of c.in-Event.is)
 
 pub overflow_mul-cursor : goal.overflow_mul-cursor
 overflow_mul-cursor c = record { fits = omega (arith, room (goal.at.overflow_mul-cursor c).In-Event) }

@@ -8,7 +8,7 @@ use Rattle.track.specs.List.{capacity}
 use Rattle.track.proofs.Reading.{took}
 use Rattle.rows.specs.Read.{laid_of}
 use Rattle.rows.specs.declared.lists.Laid.{Laid}
-use Rattle.rows.proofs.RowCells.{unread, laying_first, laying_length, laying-more, laid, LaidOn, laid_on, laid_stop}
+use Rattle.rows.proofs.RowCells.{unread, laying_first, laying_length, laying_more, laid, LaidOn, laid_on, laid_stop}
 use Rattle.rows.proofs.lists.lay_rows.Goals as goal
 use Rattle.rows.proofs.lists.lay_rows.Goals.{In-On, then-is_valid+in-Stop, else-is_valid}
 
@@ -44,7 +44,7 @@ loop-why-smaller c =
 pub loop-why-preserved : goal.loop-why-preserved
 loop-why-preserved c =
     let o = on (goal.at.loop-why-preserved c).In-On in
-    laying-more c.requires c.loop-why.invariant o.is _ o.put
+    laying_more c.requires c.loop-why.invariant o.is _ o.put
 
 pub returns : goal.returns
 returns c =

@@ -3,7 +3,7 @@ use mathlib.Core.Path.{◌∙◌}
 use Prim.Native.Nat.{◌+◌, ◌≤◌, ◌<◌}
 use native.Mathlib.Omega.{arith}
 use lib.ListN.{length, get_or}
-use Rattle.rows.proofs.ShortReads.{short-own, short-under}
+use Rattle.rows.proofs.ShortReads.{short_own, short_under}
 use Rattle.rows.proofs.short.short_at.Goals as goal
 use Rattle.rows.proofs.short.short_at.Goals.{Else-status-eq0, then-byte-ge128, else-byte-ge128}
 
@@ -41,6 +41,6 @@ returns c =
     let small : get_or a.raw.now a.at 0 < 0x80 = omega (arith, c.if-raw-at-ge128.false) in
     λ found.
     elim c.if-byte-ge128.branch [
-      | then-byte-ge128 w ↦ short-own a.raw.now a.at a.running.status c.requires f small w.if-byte-ge128.true (omega (arith, c.if-byte-ge240.false)) (rw (w.status-is, w.place-is) at (c.short_data.ensures found))
-      | else-byte-ge128 w ↦ short-under a.raw.now a.at a.running.status c.requires f small (omega (arith, w.if-byte-ge128.false)) (λ z. c.if-status-eq0.false (w.status-is ∙ z)) (rw (w.status-is, w.place-is) at (c.short_data.ensures found))
+      | then-byte-ge128 w ↦ short_own a.raw.now a.at a.running.status c.requires f small w.if-byte-ge128.true (omega (arith, c.if-byte-ge240.false)) (rw (w.status-is, w.place-is) at (c.short_data.ensures found))
+      | else-byte-ge128 w ↦ short_under a.raw.now a.at a.running.status c.requires f small (omega (arith, w.if-byte-ge128.false)) (λ z. c.if-status-eq0.false (w.status-is ∙ z)) (rw (w.status-is, w.place-is) at (c.short_data.ensures found))
     ]

@@ -3,7 +3,7 @@ use mathlib.Core.Path.{sym, ap, ◌∙◌}
 use Prim.Native.Nat.{ℕ}
 use Rattle.track.specs.List.{capacity}
 use Rattle.rows.specs.RowLists.{are_rows}
-use Rattle.same.proofs.Asked.{first_many, second_many, first-no-rows, second-no-rows, all-rows, counts_apart}
+use Rattle.same.proofs.Asked.{first_many, second_many, first_no_rows, second_no_rows, all_rows, counts_apart}
 use Rattle.same.proofs.of_rows.same_row_lists.Goals as goal
 
 pub returns-then-a_count-gt-CAPACITY : goal.returns-then-a_count-gt-CAPACITY
@@ -20,20 +20,20 @@ pub returns-then-not-are_rows : goal.returns-then-not-are_rows
 returns-then-not-are_rows c =
     let a = c.args in
     let r = c.are_rows in
-    rw (first-no-rows capacity a.a.now a.a_count a.b.now a.b_count c.if-a_count-gt-CAPACITY.false c.if-b_count-gt-CAPACITY.false (sym r.ensures ∙ c.if-not-are_rows.true))
+    rw (first_no_rows capacity a.a.now a.a_count a.b.now a.b_count c.if-a_count-gt-CAPACITY.false c.if-b_count-gt-CAPACITY.false (sym r.ensures ∙ c.if-not-are_rows.true))
 
 pub returns-then-not-are_rows-2 : goal.returns-then-not-are_rows-2
 returns-then-not-are_rows-2 c =
     let a = c.args in
     let r = c.are_rows-2 in
-    rw (second-no-rows capacity a.a.now a.a_count a.b.now a.b_count c.if-a_count-gt-CAPACITY.false c.if-b_count-gt-CAPACITY.false (sym r.ensures ∙ c.if-not-are_rows-2.true))
+    rw (second_no_rows capacity a.a.now a.a_count a.b.now a.b_count c.if-a_count-gt-CAPACITY.false c.if-b_count-gt-CAPACITY.false (sym r.ensures ∙ c.if-not-are_rows-2.true))
 
 pub returns-then-a_count-b_count : goal.returns-then-a_count-b_count
 returns-then-a_count-b_count c =
     let a = c.args in
     let q = c.are_rows in
     let r = c.are_rows-2 in
-    rw (all-rows capacity a.a.now a.a_count a.b.now a.b_count c.if-a_count-gt-CAPACITY.false c.if-b_count-gt-CAPACITY.false (sym q.ensures ∙ c.if-not-are_rows.false) (sym r.ensures ∙ c.if-not-are_rows-2.false))
+    rw (all_rows capacity a.a.now a.a_count a.b.now a.b_count c.if-a_count-gt-CAPACITY.false c.if-b_count-gt-CAPACITY.false (sym q.ensures ∙ c.if-not-are_rows.false) (sym r.ensures ∙ c.if-not-are_rows-2.false))
     (counts_apart _ _ _ _ _ _ c.if-a_count-b_count.true)
 
 pub same_all-requires : goal.same_all-requires
@@ -52,5 +52,5 @@ returns c =
     let a = c.args in
     let q = c.are_rows in
     let r = c.are_rows-2 in
-    rw (all-rows capacity a.a.now a.a_count a.b.now a.b_count c.if-a_count-gt-CAPACITY.false c.if-b_count-gt-CAPACITY.false (sym q.ensures ∙ c.if-not-are_rows.false) (sym r.ensures ∙ c.if-not-are_rows-2.false), ← c.if-a_count-b_count.false)
+    rw (all_rows capacity a.a.now a.a_count a.b.now a.b_count c.if-a_count-gt-CAPACITY.false c.if-b_count-gt-CAPACITY.false (sym q.ensures ∙ c.if-not-are_rows.false) (sym r.ensures ∙ c.if-not-are_rows-2.false), ← c.if-a_count-b_count.false)
     c.same_all.ensures

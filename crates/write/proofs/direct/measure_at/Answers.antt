@@ -10,8 +10,8 @@ use Rattle.write.specs.Raw.{channel_raw, wire_of, is_sound, raw_length, raw_afte
 use Rattle.write.specs.declared.raw.Channel.{Channel}
 use Rattle.write.specs.declared.raw.Raw.TheVariants as raw
 use Rattle.write.proofs.Doors.{row_number, told}
-use Rattle.write.proofs.Lengths.{raw-size, raw_few}
-use Rattle.write.proofs.Straight.{direct-judged}
+use Rattle.write.proofs.Lengths.{raw_size_lem, raw_few}
+use Rattle.write.proofs.Straight.{direct_judged}
 use Rattle.write.proofs.direct.measure_at.Goals as goal
 
 pub offset_bounds-rows-at : goal.offset_bounds-rows-at
@@ -36,9 +36,9 @@ returns-then-status-ne0 c =
     let a = c.args in
     let m = c.channel_at-c in
     let d = m.ensures c.if-status-ne0.true in
-    let judged = direct-judged a.rows.now a.at (rules_of a.rules) a.bytes.now d.0 ∙ ap (λ (x : Channel). gives (raw_event (get_or a.rows.now a.at 0) (channel_raw x))) (sym d.1) in
+    let judged = direct_judged a.rows.now a.at (rules_of a.rules) a.bytes.now d.0 ∙ ap (λ (x : Channel). gives (raw_event (get_or a.rows.now a.at 0) (channel_raw x))) (sym d.1) in
     rw (judged, c.channel_length.ensures, c.varlen_length.ensures)
-    (ap gives (raw-size a.bytes.now a.running.status (get_or a.rows.now a.at 0) (raw.Channel m.result) refl))
+    (ap gives (raw_size_lem a.bytes.now a.running.status (get_or a.rows.now a.at 0) (raw.Channel m.result) refl))
 
 pub measured-requires : goal.measured-requires
 measured-requires c = told _ _ (row_number _ _ _) c.judge_at.result c.judge_at.ensures

@@ -8,7 +8,7 @@ use Rattle.smf.specs.Wire.{raw_event, encode_raw, encode_raw_event}
 use Rattle.write.specs.Raw.{channel_raw}
 use Rattle.write.proofs.Channels.{channel_after}
 use Rattle.write.proofs.Steps.{write_put}
-use Rattle.write.proofs.Storing.{first_room, second-room, over_both}
+use Rattle.write.proofs.Storing.{first_room, second_room, over_both}
 use Rattle.write.proofs.direct.put_message.Goals as goal
 
 pub put_delta-start-requires : goal.put_delta-start-requires
@@ -21,7 +21,7 @@ pub put_channel-next-requires : goal.put_channel-next-requires
 unfolding encode_raw_event
 put_channel-next-requires c =
     let a = c.args in
-    second-room (encode_number a.delta.0) (encode_raw a.running.status (channel_raw a.c)) a.out.now a.at c.put_delta-start.ensures c.requires.1
+    second_room (encode_number a.delta.0) (encode_raw a.running.status (channel_raw a.c)) a.out.now a.at c.put_delta-start.ensures c.requires.1
 
 pub returns : goal.returns
 unfolding encode_raw_event

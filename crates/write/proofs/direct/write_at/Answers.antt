@@ -2,32 +2,32 @@
 use native.Mathlib.Omega.{arith}
 use Rattle.base.specs.Rules.{rules_of}
 use Rattle.write.proofs.Doors.{row_number, told}
-use Rattle.write.proofs.Straight.{direct-judged, judged-there, judged-direct, judged-message}
+use Rattle.write.proofs.Straight.{direct_judged, judged_there, judged_direct, judged_message}
 use Rattle.write.proofs.direct.write_at.Goals as goal
 
 pub overflow_add-at : goal.overflow_add-at
-overflow_add-at c = omega (arith, judged-there c.args.rows.now c.args.at (rules_of c.args.rules) c.args.bytes.now c.requires.1)
+overflow_add-at c = omega (arith, judged_there c.args.rows.now c.args.at (rules_of c.args.rules) c.args.bytes.now c.requires.1)
 
 pub offset_bounds-rows-at : goal.offset_bounds-rows-at
-offset_bounds-rows-at c = omega (arith, judged-there c.args.rows.now c.args.at (rules_of c.args.rules) c.args.bytes.now c.requires.1)
+offset_bounds-rows-at c = omega (arith, judged_there c.args.rows.now c.args.at (rules_of c.args.rules) c.args.bytes.now c.requires.1)
 
 pub bounds-rows-at : goal.bounds-rows-at
-bounds-rows-at c = omega (arith, judged-there c.args.rows.now c.args.at (rules_of c.args.rules) c.args.bytes.now c.requires.1)
+bounds-rows-at c = omega (arith, judged_there c.args.rows.now c.args.at (rules_of c.args.rules) c.args.bytes.now c.requires.1)
 
 pub put_direct-requires : goal.put_direct-requires
 put_direct-requires c =
     let h = c.if-rows-at-lt15.true in
     let a = c.args in (
-      judged-direct a.rows.now a.at (rules_of a.rules) a.bytes.now c.requires.1 h,
-      rw (judged-message a.rows.now a.at (rules_of a.rules) a.bytes.now c.requires.1 h) at c.requires.2,
+      judged_direct a.rows.now a.at (rules_of a.rules) a.bytes.now c.requires.1 h,
+      rw (judged_message a.rows.now a.at (rules_of a.rules) a.bytes.now c.requires.1 h) at c.requires.2,
     )
 
 pub returns-then-rows-at-lt15 : goal.returns-then-rows-at-lt15
 returns-then-rows-at-lt15 c =
     let h = c.if-rows-at-lt15.true in
     let a = c.args in
-    let d = judged-direct a.rows.now a.at (rules_of a.rules) a.bytes.now c.requires.1 h in
-    rw (direct-judged a.rows.now a.at (rules_of a.rules) a.bytes.now d) c.put_direct.ensures
+    let d = judged_direct a.rows.now a.at (rules_of a.rules) a.bytes.now c.requires.1 h in
+    rw (direct_judged a.rows.now a.at (rules_of a.rules) a.bytes.now d) c.put_direct.ensures
 
 pub written-requires : goal.written-requires
 written-requires c = told _ _ (row_number _ _ _) c.judge_at.result c.judge_at.ensures

@@ -1,7 +1,7 @@
 -- `raw_size` meets its contract: the delta's length and that of what stands behind it.
 use native.Mathlib.Omega.{arith}
 use Rattle.smf.proofs.Number.{encode_most}
-use Rattle.write.proofs.Lengths.{sound_short, raw_few, raw-size}
+use Rattle.write.proofs.Lengths.{sound_short, raw_few, raw_size_lem}
 use Rattle.write.proofs.length.raw_size.Goals as goal
 
 pub body_length-requires : goal.body_length-requires
@@ -14,4 +14,4 @@ overflow_add-length c =
 
 pub returns : goal.returns
 returns c =
-    rw (c.status_after-status.ensures, c.body_length.ensures, c.varlen_length.ensures) (raw-size c.args.bytes.now c.args.running.status c.args.event.delta.0 c.args.event.raw c.requires)
+    rw (c.status_after-status.ensures, c.body_length.ensures, c.varlen_length.ensures) (raw_size_lem c.args.bytes.now c.args.running.status c.args.event.delta.0 c.args.event.raw c.requires)

@@ -10,7 +10,7 @@ use Rattle.write.specs.Raw.{is_sound, wire_of, raw_length}
 use Rattle.write.specs.declared.raw.Raw.{Raw}
 use Rattle.write.specs.declared.raw.Raw.TheVariants as raw
 use Rattle.write.proofs.Payloads.{lent_inside}
-use Rattle.write.proofs.Lengths.{raw-length}
+use Rattle.write.proofs.Lengths.{raw_length_lem}
 use Rattle.write.proofs.put.put_body.Goals as goal
 
 -- what the caller showed, of the form that it is
@@ -19,7 +19,7 @@ Ready bytes running place room raw = (is_sound bytes raw ≡ true) × (place + l
 
 -- and how much room it takes
 roomy : (bytes : List ℕ) (running place room : ℕ) (raw : Raw) → Ready bytes running place room raw → place + raw_length running raw ≤ room
-roomy bytes running place room raw r = rw (raw-length bytes running raw r.0) at r.1
+roomy bytes running place room raw r = rw (raw_length_lem bytes running raw r.0) at r.1
 
 pub put_channel-requires : goal.put_channel-requires
 unfolding wire_of

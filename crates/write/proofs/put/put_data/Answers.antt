@@ -4,13 +4,13 @@ use mathlib.Core.List.{[], ◌∷◌}
 use Prim.Native.Nat.{◌+◌}
 use native.Mathlib.Omega.{arith}
 use lib.ListN.{set, length-set}
-use Rattle.smf.proofs.Answer.{by-test}
+use Rattle.smf.proofs.Answer.{by_test}
 use Rattle.write.proofs.Storing.{over_one, over_cons}
 use Rattle.write.proofs.put.put_data.Goals as goal
 
 pub bounds-out-at : goal.bounds-out-at
 bounds-out-at c =
-    by-test c.args.bytes.pair (λ p. omega (arith, rw p at c.requires)) (λ p. omega (arith, rw p at c.requires))
+    by_test c.args.bytes.pair (λ p. omega (arith, rw p at c.requires)) (λ p. omega (arith, rw p at c.requires))
 
 pub bounds-out-at-then-bytes : goal.bounds-out-at-then-bytes
 bounds-out-at-then-bytes c = simp length-set (omega (arith, rw c.if-bytes.true at c.requires))

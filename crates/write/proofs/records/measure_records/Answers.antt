@@ -9,9 +9,9 @@ use Rattle.base.specs.Rules.{rules_of}
 use Rattle.track.specs.List.{capacity, record_of}
 use Rattle.track.proofs.Held.{past, unmapped}
 use Rattle.write.specs.Size.{size_judged, length_said}
-use Rattle.write.proofs.Judging.{recordsCounted, records-counted, record-counted, record_lawful}
+use Rattle.write.proofs.Judging.{records_counted, records_counted_lem, record_counted, record_lawful}
 use Rattle.write.proofs.Doors.{legal_number, told}
-use Rattle.write.proofs.Measuring.{seen_first, seen_last, seen-illegal, seen_most, seen_more}
+use Rattle.write.proofs.Measuring.{seen_first, seen_last, seen_illegal, seen_most, seen_more}
 use Rattle.write.proofs.records.measure_records.Goals as goal
 use Rattle.write.proofs.records.measure_records.Goals.{After-measured}
 
@@ -22,17 +22,17 @@ pub measured-requires : goal.measured-requires
 measured-requires c = told _ _ (legal_number _ _ _) c.record_raw-judged.result c.record_raw-judged.ensures
 
 -- the record that is measured is one that counts
-inside : (c : After-measured) → let l = c.loop-index in let a = c.args in l.index < length (recordsCounted (rules_of a.rules) a.bytes.now a.list.records a.list.count)
+inside : (c : After-measured) → let l = c.loop-index in let a = c.args in l.index < length (records_counted (rules_of a.rules) a.bytes.now a.list.records a.list.count)
 inside c =
     let l = c.loop-index in
     let a = c.args in
-    omega (arith, records-counted (rules_of a.rules) a.bytes.now a.list.records a.list.count l.invariant.0, c.loop-index-test.true)
+    omega (arith, records_counted_lem (rules_of a.rules) a.bytes.now a.list.records a.list.count l.invariant.0, c.loop-index-test.true)
 
-there : (c : After-measured) → let l = c.loop-index in let a = c.args in get_or (recordsCounted (rules_of a.rules) a.bytes.now a.list.records a.list.count) l.index (legal (rules_of a.rules) a.bytes.now (record_of past)) ≡ legal (rules_of a.rules) a.bytes.now (record_of (get_or a.list.records l.index past))
+there : (c : After-measured) → let l = c.loop-index in let a = c.args in get_or (records_counted (rules_of a.rules) a.bytes.now a.list.records a.list.count) l.index (legal (rules_of a.rules) a.bytes.now (record_of past)) ≡ legal (rules_of a.rules) a.bytes.now (record_of (get_or a.list.records l.index past))
 there c =
     let l = c.loop-index in
     let a = c.args in
-    record-counted (rules_of a.rules) a.bytes.now a.list.records a.list.count l.index c.loop-index-test.true
+    record_counted (rules_of a.rules) a.bytes.now a.list.records a.list.count l.index c.loop-index-test.true
 
 said : (c : After-measured) → let l = c.loop-index in let a = c.args in length_said c.measured.result ≡ size_judged l.status (legal (rules_of a.rules) a.bytes.now (record_of (get_or a.list.records l.index past)))
 unfolding size_judged
@@ -42,23 +42,23 @@ pub returns-in-Refused : goal.returns-in-Refused
 returns-in-Refused c =
     let l = c.loop-index in
     let a = c.args in
-    seen-illegal a.running.status (recordsCounted (rules_of a.rules) a.bytes.now a.list.records a.list.count) l.invariant.2 (inside (goal.at.returns-in-Refused c).After-measured) (legal (rules_of a.rules) a.bytes.now (record_of past)) _ (there (goal.at.returns-in-Refused c).After-measured) c.measured.result (said (goal.at.returns-in-Refused c).After-measured) c.in-Refused.refusal c.in-Refused.is
+    seen_illegal a.running.status (records_counted (rules_of a.rules) a.bytes.now a.list.records a.list.count) l.invariant.2 (inside (goal.at.returns-in-Refused c).After-measured) (legal (rules_of a.rules) a.bytes.now (record_of past)) _ (there (goal.at.returns-in-Refused c).After-measured) c.measured.result (said (goal.at.returns-in-Refused c).After-measured) c.in-Refused.refusal c.in-Refused.is
 
 pub overflow_add-length : goal.overflow_add-length
 overflow_add-length c =
     let l = c.loop-index in
     let a = c.args in
-    let most = seen_most a.running.status (recordsCounted (rules_of a.rules) a.bytes.now a.list.records a.list.count) l.invariant.2 (inside (goal.at.overflow_add-length c).After-measured) (legal (rules_of a.rules) a.bytes.now (record_of past)) _ (there (goal.at.overflow_add-length c).After-measured) c.measured.result (said (goal.at.overflow_add-length c).After-measured) (rules_of a.rules) (record_lawful (rules_of a.rules) a.bytes.now (record_of (get_or a.list.records l.index past))) c.in-Length.size c.in-Length.is in
+    let most = seen_most a.running.status (records_counted (rules_of a.rules) a.bytes.now a.list.records a.list.count) l.invariant.2 (inside (goal.at.overflow_add-length c).After-measured) (legal (rules_of a.rules) a.bytes.now (record_of past)) _ (there (goal.at.overflow_add-length c).After-measured) c.measured.result (said (goal.at.overflow_add-length c).After-measured) (rules_of a.rules) (record_lawful (rules_of a.rules) a.bytes.now (record_of (get_or a.list.records l.index past))) c.in-Length.size c.in-Length.is in
     omega (arith, most, l.invariant.2.small, c.requires)
 
 pub loop-index-preserved : goal.loop-index-preserved
 loop-index-preserved c =
     let l = c.loop-index in
     let a = c.args in
-    (l.invariant.0, omega arith, seen_more a.running.status (recordsCounted (rules_of a.rules) a.bytes.now a.list.records a.list.count) l.invariant.2 (inside (goal.at.loop-index-preserved c).After-measured) (legal (rules_of a.rules) a.bytes.now (record_of past)) _ (there (goal.at.loop-index-preserved c).After-measured) c.measured.result (said (goal.at.loop-index-preserved c).After-measured) (rules_of a.rules) (record_lawful (rules_of a.rules) a.bytes.now (record_of (get_or a.list.records l.index past))) c.in-Length.size c.in-Length.is)
+    (l.invariant.0, omega arith, seen_more a.running.status (records_counted (rules_of a.rules) a.bytes.now a.list.records a.list.count) l.invariant.2 (inside (goal.at.loop-index-preserved c).After-measured) (legal (rules_of a.rules) a.bytes.now (record_of past)) _ (there (goal.at.loop-index-preserved c).After-measured) c.measured.result (said (goal.at.loop-index-preserved c).After-measured) (rules_of a.rules) (record_lawful (rules_of a.rules) a.bytes.now (record_of (get_or a.list.records l.index past))) c.in-Length.size c.in-Length.is)
 
 pub returns : goal.returns
 returns c =
     let l = c.loop-index in
     let a = c.args in
-    seen_last a.running.status (recordsCounted (rules_of a.rules) a.bytes.now a.list.records a.list.count) l.invariant.2 (omega (arith, records-counted (rules_of a.rules) a.bytes.now a.list.records a.list.count l.invariant.0))
+    seen_last a.running.status (records_counted (rules_of a.rules) a.bytes.now a.list.records a.list.count) l.invariant.2 (omega (arith, records_counted_lem (rules_of a.rules) a.bytes.now a.list.records a.list.count l.invariant.0))

@@ -9,37 +9,37 @@ use Rattle.write.specs.ListAnswers.{size_said}
 use Rattle.write.specs.declared.answer.Size.{Size}
 use Rattle.write.specs.declared.answer.ListLength.{ListLength}
 use Rattle.write.specs.declared.answer.ListLength.TheVariants as long
-use Rattle.write.proofs.Sizes.{unsized-left, sized-few, sized-fits, sized-full, sized-put}
+use Rattle.write.proofs.Sizes.{unsized_left, sized_few, sized_fits, sized_full, sized_put}
 use Rattle.write.proofs.records.write_list.Goals as goal
 
 -- the list has this size
-size-there : (answer : ListLength) (s : Size) (z : ListSize) → answer ≡ long.Length s → size_said answer ≡ z → record { answer = wrote s.length; running = s.running.status } ≡ z
-size-there answer s z e said = sym (ap size_said e) ∙ said
+size_there : (answer : ListLength) (s : Size) (z : ListSize) → answer ≡ long.Length s → size_said answer ≡ z → record { answer = wrote s.length; running = s.running.status } ≡ z
+size_there answer s z e said = sym (ap size_said e) ∙ said
 
 pub returns-then-out-size : goal.returns-then-out-size
 returns-then-out-size c =
     let a = c.args in
     let s = c.in-Length.size in
-    sized-full capacity a.running.status (records_judged (rules_of a.rules) a.bytes.now (map record_of a.list.records)) a.list.count a.out.now s.length s.running.status (size-there _ s _ c.in-Length.is c.list_length.ensures) c.if-out-size.true
+    sized_full capacity a.running.status (records_judged (rules_of a.rules) a.bytes.now (map record_of a.list.records)) a.list.count a.out.now s.length s.running.status (size_there _ s _ c.in-Length.is c.list_length.ensures) c.if-out-size.true
 
 pub put_records-requires : goal.put_records-requires
 put_records-requires c =
     let a = c.args in
     let s = c.in-Length.size in record {
-      count_le_capacity = sized-few capacity a.running.status (records_judged (rules_of a.rules) a.bytes.now (map record_of a.list.records)) a.list.count a.out.now s.length s.running.status (size-there _ s _ c.in-Length.is c.list_length.ensures);
-      room_for = sized-fits capacity a.running.status (records_judged (rules_of a.rules) a.bytes.now (map record_of a.list.records)) a.list.count a.out.now s.length s.running.status (size-there _ s _ c.in-Length.is c.list_length.ensures) c.if-out-size.false;
+      count_le_capacity = sized_few capacity a.running.status (records_judged (rules_of a.rules) a.bytes.now (map record_of a.list.records)) a.list.count a.out.now s.length s.running.status (size_there _ s _ c.in-Length.is c.list_length.ensures);
+      room_for = sized_fits capacity a.running.status (records_judged (rules_of a.rules) a.bytes.now (map record_of a.list.records)) a.list.count a.out.now s.length s.running.status (size_there _ s _ c.in-Length.is c.list_length.ensures) c.if-out-size.false;
     }
 
 pub returns-in-Refused : goal.returns-in-Refused
 returns-in-Refused c =
     let a = c.args in
     let n = c.in-Refused.n in
-    unsized-left capacity a.running.status (records_judged (rules_of a.rules) a.bytes.now (map record_of a.list.records)) a.list.count a.out.now n.running.status (number_of n.refusal) n.index
+    unsized_left capacity a.running.status (records_judged (rules_of a.rules) a.bytes.now (map record_of a.list.records)) a.list.count a.out.now n.running.status (number_of n.refusal) n.index
     (sym (ap size_said c.in-Refused.is) ∙ c.list_length.ensures)
 
 pub returns-else-out-size : goal.returns-else-out-size
 returns-else-out-size c =
     let a = c.args in
     let s = c.in-Length.size in
-    sized-put capacity a.running.status (records_judged (rules_of a.rules) a.bytes.now (map record_of a.list.records)) a.list.count a.out.now s.length s.running.status (size-there _ s _ c.in-Length.is c.list_length.ensures)
+    sized_put capacity a.running.status (records_judged (rules_of a.rules) a.bytes.now (map record_of a.list.records)) a.list.count a.out.now s.length s.running.status (size_there _ s _ c.in-Length.is c.list_length.ensures)
     c.if-out-size.false _ c.put_records.ensures

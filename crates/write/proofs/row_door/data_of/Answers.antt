@@ -5,16 +5,16 @@ use Prim.Native.Nat.{ℕ, ◌/◌}
 use native.Mathlib.Omega.{arith}
 use lib.Dec.{eqb}
 use borrow.Author.Tests.{eqb-false, eq-eqb, ne_eqb}
-use Rattle.smf.proofs.Answer.{by-test, by-lt}
+use Rattle.smf.proofs.Answer.{by_test, by_lt}
 use Rattle.write.specs.Raw.{data_of}
 use Rattle.write.proofs.row_door.data_of.Goals as goal
 
 -- the two numbers whose half is 6
 halved : (n : ℕ) → n / 2 ≡ 6 → (eqb n 12 || eqb n 13) ≡ true
 halved n h =
-    by-test (eqb n 12)
+    by_test (eqb n 12)
     (λ t. rw t)
-    (λ t. rw (t, eq-eqb n 13 (by-lt n 13 (λ p. absurd (eqb-false n 12 t (omega (arith, h)))) (λ p. omega (arith, h)))))
+    (λ t. rw (t, eq-eqb n 13 (by_lt n 13 (λ p. absurd (eqb-false n 12 t (omega (arith, h)))) (λ p. omega (arith, h)))))
 
 unhalved : (n : ℕ) → (n / 2 ≡ 6 → ⊥) → (eqb n 12 || eqb n 13) ≡ false
 unhalved n h =

@@ -7,7 +7,7 @@ use Rattle.base.specs.Rules.{rules_of}
 use Rattle.meta.specs.Meta.{span_of}
 use Rattle.rows.specs.RowEvent.{fields_fit, row_meta}
 use Rattle.write.proofs.Forms.{channel_made, port_made, end_made, tempo_made, sequencer_made}
-use Rattle.write.proofs.RowForms.{narrower, small, text-fits, text-meta}
+use Rattle.write.proofs.RowForms.{narrower, small, text_fits, text_meta}
 use Rattle.write.proofs.row_door.row_meta.Goals as goal
 
 pub returns-in-256 : goal.returns-in-256
@@ -71,4 +71,4 @@ returns-in_default c =
     let n345 : t ≡ 345 → ⊥ = omega arith in
     let n383 : t ≡ 383 → ⊥ = omega arith in
     let n512 : t ≡ 512 → ⊥ = omega arith in
-    rw (text-fits (rules_of a.rules) a.bytes.now a.a a.b a.c a.d a.e a.f t p.0 p.1 p.2 n256 n288 n289 n303 n337 n340 n344 n345 n383 n512, text-meta (rules_of a.rules) a.bytes.now a.a a.b a.c a.d a.e a.f t p.0 p.1 p.2 n256 n288 n289 n303 n337 n340 n344 n345 n383 n512 (span_of a.load)) (c.row_text.ensures _)
+    rw (text_fits (rules_of a.rules) a.bytes.now a.a a.b a.c a.d a.e a.f t p.0 p.1 p.2 n256 n288 n289 n303 n337 n340 n344 n345 n383 n512, text_meta (rules_of a.rules) a.bytes.now a.a a.b a.c a.d a.e a.f t p.0 p.1 p.2 n256 n288 n289 n303 n337 n340 n344 n345 n383 n512 (span_of a.load)) (c.row_text.ensures _)

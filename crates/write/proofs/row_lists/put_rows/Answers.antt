@@ -2,8 +2,8 @@
 use native.Mathlib.Omega.{arith}
 use Rattle.smf.specs.Answer.{refuses}
 use Rattle.base.specs.Rules.{rules_of}
-use Rattle.write.proofs.Judging.{rowsCounted, rows-counted, row-counted}
-use Rattle.write.proofs.Writing.{going_first, going-last, going-room, going_more, going-never}
+use Rattle.write.proofs.Judging.{rows_counted, rows_counted_lem, row_counted}
+use Rattle.write.proofs.Writing.{going_first, going_last, going_room, going_more, going_never}
 use Rattle.write.proofs.row_lists.put_rows.Goals as goal
 
 pub loop-index-init : goal.loop-index-init
@@ -14,24 +14,24 @@ write_at-requires c =
     let l = c.loop-index in
     let a = c.args in
     let i = c.loop-index-test.true in
-    going-room a.running.status (rowsCounted (rules_of a.rules) a.bytes.now a.count a.rows.now) a.out.now l.invariant.1 (refuses 0) _ (row-counted (rules_of a.rules) a.bytes.now a.count a.rows.now l.index (refuses 0) i) (omega (arith, i, rows-counted (rules_of a.rules) a.bytes.now a.count a.rows.now))
+    going_room a.running.status (rows_counted (rules_of a.rules) a.bytes.now a.count a.rows.now) a.out.now l.invariant.1 (refuses 0) _ (row_counted (rules_of a.rules) a.bytes.now a.count a.rows.now l.index (refuses 0) i) (omega (arith, i, rows_counted_lem (rules_of a.rules) a.bytes.now a.count a.rows.now))
 
 pub returns-in-Refused : goal.returns-in-Refused
 returns-in-Refused c =
     let l = c.loop-index in
     let a = c.args in
     let i = c.loop-index-test.true in
-    absurd (going-never a.running.status (rowsCounted (rules_of a.rules) a.bytes.now a.count a.rows.now) a.out.now l.invariant.1 (refuses 0) _ (row-counted (rules_of a.rules) a.bytes.now a.count a.rows.now l.index (refuses 0) i) (omega (arith, i, rows-counted (rules_of a.rules) a.bytes.now a.count a.rows.now)) c.write_at.result _ c.write_at.ensures _ c.in-Refused.is)
+    absurd (going_never a.running.status (rows_counted (rules_of a.rules) a.bytes.now a.count a.rows.now) a.out.now l.invariant.1 (refuses 0) _ (row_counted (rules_of a.rules) a.bytes.now a.count a.rows.now l.index (refuses 0) i) (omega (arith, i, rows_counted_lem (rules_of a.rules) a.bytes.now a.count a.rows.now)) c.write_at.result _ c.write_at.ensures _ c.in-Refused.is)
 
 pub loop-index-preserved : goal.loop-index-preserved
 loop-index-preserved c =
     let l = c.loop-index in
     let a = c.args in
     let i = c.loop-index-test.true in
-    (omega arith, going_more a.running.status (rowsCounted (rules_of a.rules) a.bytes.now a.count a.rows.now) a.out.now l.invariant.1 (refuses 0) _ (row-counted (rules_of a.rules) a.bytes.now a.count a.rows.now l.index (refuses 0) i) (omega (arith, i, rows-counted (rules_of a.rules) a.bytes.now a.count a.rows.now)) c.write_at.result _ c.write_at.ensures c.in-Next.past c.in-Next.is)
+    (omega arith, going_more a.running.status (rows_counted (rules_of a.rules) a.bytes.now a.count a.rows.now) a.out.now l.invariant.1 (refuses 0) _ (row_counted (rules_of a.rules) a.bytes.now a.count a.rows.now l.index (refuses 0) i) (omega (arith, i, rows_counted_lem (rules_of a.rules) a.bytes.now a.count a.rows.now)) c.write_at.result _ c.write_at.ensures c.in-Next.past c.in-Next.is)
 
 pub returns : goal.returns
 returns c =
     let l = c.loop-index in
     let a = c.args in
-    going-last a.running.status (rowsCounted (rules_of a.rules) a.bytes.now a.count a.rows.now) a.out.now l.invariant.1 (omega (arith, rows-counted (rules_of a.rules) a.bytes.now a.count a.rows.now))
+    going_last a.running.status (rows_counted (rules_of a.rules) a.bytes.now a.count a.rows.now) a.out.now l.invariant.1 (omega (arith, rows_counted_lem (rules_of a.rules) a.bytes.now a.count a.rows.now))

@@ -1,12 +1,12 @@
 use Prim.Native.Nat.{◌-◌, ◌≤◌}
 use Rattle.base.specs.Rules.{rules_of}
-use Rattle.write.proofs.Judging.{rowsCounted}
+use Rattle.write.proofs.Judging.{rows_counted}
 use Rattle.write.proofs.Writing.{Going}
 use Rattle.write.proofs.row_lists.put_rows.Given as goal
 
 abbrev pub invariant-loop-index : goal.invariant-loop-index
 invariant-loop-index l =
-    (l.index ≤ l.count) × Going l.initial.status (rowsCounted (rules_of l.rules) l.bytes l.count l.rows) l.initial.out l.out l.place l.status l.index
+    (l.index ≤ l.count) × Going l.initial.status (rows_counted (rules_of l.rules) l.bytes l.count l.rows) l.initial.out l.out l.place l.status l.index
 
 abbrev pub decreases-loop-index : goal.decreases-loop-index
 decreases-loop-index l = l.count - l.index

@@ -27,12 +27,12 @@ returns-else-ticks-gt32767 c =
 minus : (n : ℕ) → n < 128 → SFits w8 (pos 0 -ℤ to_z w8 n)
 minus n h = rw (minus_small n h) (minus_fits n h)
 
-byte-minus : (n : ℕ) → n < 128 → 0 < n → byte_of_signed (to_z w8 (of_z w8 (pos 0 -ℤ to_z w8 n))) ≡ 256 - n
-byte-minus n h some = ap byte_of_signed (to_z-of_z {w = w8} (minus n h) ∙ minus_small n h) ∙ byte_negated n some
+byte_minus : (n : ℕ) → n < 128 → 0 < n → byte_of_signed (to_z w8 (of_z w8 (pos 0 -ℤ to_z w8 n))) ≡ 256 - n
+byte_minus n h some = ap byte_of_signed (to_z-of_z {w = w8} (minus n h) ∙ minus_small n h) ∙ byte_negated n some
 
 -- the byte of minus the rate
 byte : (fps : Fps) (rate made : ℕ) → rate ≡ rate_of fps → made ≡ byte_of_signed (to_z w8 (of_z w8 (pos 0 -ℤ to_z w8 rate))) → made ≡ 256 - rate_of fps
-byte fps rate made is told = told ∙ byte-minus rate (omega (arith, is, (rated fps).small)) (omega (arith, is, (rated fps).some)) ∙ ap (λ n. 256 - n) is
+byte fps rate made is told = told ∙ byte_minus rate (omega (arith, is, (rated fps).small)) (omega (arith, is, (rated fps).some)) ∙ ap (λ n. 256 - n) is
 
 pub returns-in-Timecode : goal.returns-in-Timecode
 returns-in-Timecode c =

@@ -37,12 +37,12 @@ minus high byte rate small wide is opposite low top =
     ∙ ap neg_ℤ (to_z-of_z {w = w8} (record { sfits = small }) ∙ is)
     ∙ negated_byte high low top
 
-rate-is : (c : After-negated-rate) → to_z w16 (of_z w16 c.negated-rate.result) ≡ pos (256 - get_or c.args.raw.now 0 0)
-rate-is c =
+rate_is : (c : After-negated-rate) → to_z w16 (of_z w16 c.negated-rate.result) ≡ pos (256 - get_or c.args.raw.now 0 0)
+rate_is c =
     minus (get_or c.args.raw.now 0 0) c.from_byte.result c.negated-rate.result c.from_byte.type_inv c.negated-rate.type_inv c.from_byte.ensures c.negated-rate.ensures c.if-high-lt128.false (omega (arith, c.type_inv.raw 0))
 
 pub overflow_cast-rate : goal.overflow_cast-rate
-overflow_cast-rate c = rw (rate-is (goal.at.overflow_cast-rate c).After-negated-rate) (tt, record { fits = omega (arith, c.if-high-lt128.false) })
+overflow_cast-rate c = rw (rate_is (goal.at.overflow_cast-rate c).After-negated-rate) (tt, record { fits = omega (arith, c.if-high-lt128.false) })
 
 -- what is read where the high byte says a rate
 told : (c : After-from_int) → read_timing c.args.raw.now ≡ and_then (tried_fps c.from_int.result) (λ rate. gives (timecode rate (get_or c.args.raw.now 1 0)))
