@@ -10,22 +10,22 @@ returns-then-event-ge268435456 c = rw (le-ltb c.args.event.delta.0 (2 ^ 28) c.if
 
 pub returns-then-channel-ge16 : goal.returns-then-channel-ge16
 unfolding event_within kind_within
-returns-then-channel-ge16 c = rw (lt-ltb _ _ c.if-event-ge268435456.false, c.in-Midi.is, le-ltb _ _ c.if-channel-ge16.true)
+returns-then-channel-ge16 c = rw (lt-ltb c.args.event.delta.0 (2 ^ 28) c.if-event-ge268435456.false, c.in-Midi.is, le-ltb c.in-Midi.channel.0 (2 ^ 4) c.if-channel-ge16.true)
 
 pub returns-else-channel-ge16 : goal.returns-else-channel-ge16
 unfolding event_within kind_within
 returns-else-channel-ge16 c =
-    rw (lt-ltb _ _ c.if-event-ge268435456.false, c.in-Midi.is, lt-ltb _ _ c.if-channel-ge16.false)
+    rw (lt-ltb c.args.event.delta.0 (2 ^ 28) c.if-event-ge268435456.false, c.in-Midi.is, lt-ltb c.in-Midi.channel.0 (2 ^ 4) c.if-channel-ge16.false)
     c.message_within.ensures
 
 pub returns-in-Meta : goal.returns-in-Meta
 unfolding event_within kind_within
-returns-in-Meta c = rw (lt-ltb _ _ c.if-event-ge268435456.false, c.in-Meta.is) c.meta_within.ensures
+returns-in-Meta c = rw (lt-ltb c.args.event.delta.0 (2 ^ 28) c.if-event-ge268435456.false, c.in-Meta.is) c.meta_within.ensures
 
 pub returns-in-SysEx : goal.returns-in-SysEx
 unfolding event_within kind_within
-returns-in-SysEx c = rw (lt-ltb _ _ c.if-event-ge268435456.false, c.in-SysEx.is)
+returns-in-SysEx c = rw (lt-ltb c.args.event.delta.0 (2 ^ 28) c.if-event-ge268435456.false, c.in-SysEx.is)
 
 pub returns-in-Escape : goal.returns-in-Escape
 unfolding event_within kind_within
-returns-in-Escape c = rw (lt-ltb _ _ c.if-event-ge268435456.false, c.in-Escape.is)
+returns-in-Escape c = rw (lt-ltb c.args.event.delta.0 (2 ^ 28) c.if-event-ge268435456.false, c.in-Escape.is)
