@@ -1,45 +1,37 @@
 -- What the writer's loops leave: what is still to be put over what is there is what is to be put in all.
-use mathlib.Core.Path.{◌≡◌, refl, sym, ap, ◌∙◌}
-use mathlib.Core.Bool.{true}
+use mathlib.Core.Path.{◌≡◌, sym, ap, ◌∙◌}
 use mathlib.Core.List.{List, ◌++◌, flatten}
 use Prim.Native.Nat.{ℕ, ◌+◌, ◌≤◌, ◌<◌}
 use native.Mathlib.Omega.{arith}
 use lib.ListN.{length, get_or}
-use Rattle.smf.specs.Place.{Span, inside, bytes_of}
-use Rattle.smf.specs.Write.{Written, over, part, write}
-use Rattle.smf.proofs.Write.{over_over, length_over, slice_fits}
+use Rattle.smf.specs.Place.{Span, bytes_of}
+use Rattle.smf.specs.Write.{over}
+use Rattle.smf.proofs.Write.{over_over, length_over}
 use Rattle.base.specs.declared.Range.{Range}
 use Rattle.write.proofs.Storing.{over_none}
 use Rattle.bank.specs.Bank.{four_bytes, behind_entries, entries, bank_length}
-use Rattle.bank.specs.Write.{all_inside, tracks_of}
-use Rattle.bank.proofs.Rest.{Rest, counted, range, rest_first, rest_inside, rest_long, rest_next, rest_more, rest_bound, none}
+use Rattle.bank.specs.Write.{tracks_of}
+use Rattle.bank.specs.Answers.{spans_of}
+use Rattle.bank.proofs.Rest.{Rest, range, rest_first, rest_inside, rest_long, rest_next, rest_more, rest_bound, none}
 use Rattle.bank.proofs.Rest as rest
 
--- a range of the bytes that was put where it fits
-pub slice_put : (bytes : List ℕ) (span : Span) (s : List ℕ) (at : ℕ) (w : Written) → inside bytes span ≡ true → at + span.length ≤ length s
-    → w ≡ write (part bytes span) s at → w.buffer ≡ over (bytes_of bytes span) s at
-slice_put bytes span s at w is h e = ap (λ (x : Written). x.buffer) (e ∙ sym (slice_fits bytes span s at is h (over (bytes_of bytes span) s at) refl))
-
-module _ (bytes : List ℕ) (ranges : List Range) (count : ℕ) (long : count ≤ length ranges) where
+module _ (bytes : List ℕ) (ranges : List Range) where
   abbrev tracks : List (List ℕ)
-  tracks = tracks_of bytes (counted bytes ranges count)
+  tracks = tracks_of bytes (spans_of ranges)
 
   -- the tracks from an index on
   abbrev pub tracks_left : ℕ → List (List ℕ)
-  tracks_left i = tracks_of bytes (rest.left bytes ranges count i)
+  tracks_left i = tracks_of bytes (rest.left bytes ranges i)
 
   module _ (before : List ℕ) where
     -- entries
     pub record EntriesPut (out : List ℕ) (place index : ℕ) : Type 0 where
-      pub rest : Rest bytes ranges count place index
+      pub rest : Rest bytes ranges place index
       pub kept : length out ≡ length before
-      pub final : over (entries (behind_entries count) tracks) before 8 ≡ over (entries place (tracks_left index)) out (behind_entries index)
+      pub final : over (entries (behind_entries (length ranges)) tracks) before 8 ≡ over (entries place (tracks_left index)) out (behind_entries index)
 
-    pub entries_first : all_inside bytes (counted bytes ranges count) ≡ true → EntriesPut before (behind_entries count) 0
-    entries_first all = record { rest = rest_first bytes ranges count long all; kept = refl; final = refl }
-
-    module _ (room : behind_entries count ≤ length before) {out : List ℕ} {place index : ℕ} (p : EntriesPut out place index) where
-      pub entries_more : (past : Range) (out₁ out₂ : List ℕ) → (more : index < count)
+    module _ (room : behind_entries (length ranges) ≤ length before) {out : List ℕ} {place index : ℕ} (p : EntriesPut out place index) where
+      pub entries_more : (past : Range) (out₁ out₂ : List ℕ) → (more : index < length ranges)
           → out₁ ≡ over (four_bytes place) out (behind_entries index)
           → out₂ ≡ over (four_bytes (get_or ranges index past).length) out₁ (behind_entries index + 4)
           → EntriesPut out₂ (place + (get_or ranges index past).length) (index + 1)
@@ -51,12 +43,12 @@ module _ (bytes : List ℕ) (ranges : List Range) (count : ℕ) (long : count �
           let kept₁ : length out₁ ≡ length out = ap length one ∙ length_over (four_bytes place) out at (omega (arith, p.kept)) in
           let kept₂ : length out₂ ≡ length out₁ = ap length two ∙ length_over (four_bytes len) out₁ (at + 4) (omega (arith, p.kept)) in
           let own : entries place (tracks_left index) ≡ four_bytes place ++ (four_bytes len ++ behind) =
-          ap (entries place) (rest_next bytes ranges count long p.rest past more)
-          ∙ ap (λ (n : ℕ). four_bytes place ++ (four_bytes n ++ entries (place + n) (tracks_left (index + 1)))) (rest_long bytes ranges count long p.rest past more)
+          ap (entries place) (rest_next bytes ranges p.rest past more)
+          ∙ ap (λ (n : ℕ). four_bytes place ++ (four_bytes n ++ entries (place + n) (tracks_left (index + 1)))) (rest_long bytes ranges p.rest past more)
           in
           let end : at + 4 + 4 ≡ behind_entries (index + 1) = omega arith in
           record {
-            rest = rest_more bytes ranges count long p.rest past more;
+            rest = rest_more bytes ranges p.rest past more;
             kept = kept₂ ∙ kept₁ ∙ p.kept;
             final =
                 p.final
@@ -68,42 +60,38 @@ module _ (bytes : List ℕ) (ranges : List Range) (count : ℕ) (long : count �
                 ∙ ap (over behind out₂) end;
           }
 
-      pub entries_all : count ≤ index → out ≡ over (entries (behind_entries count) tracks) before 8
+      pub entries_all : length ranges ≤ index → out ≡ over (entries (behind_entries (length ranges)) tracks) before 8
       unfolding entries
       entries_all last =
-          sym (p.final ∙ ap (λ (l : List Span). over (entries place (tracks_of bytes l)) out (behind_entries index)) (none bytes ranges count long index last) ∙ sym (over_none out (behind_entries index)))
+          sym (p.final ∙ ap (λ (l : List Span). over (entries place (tracks_of bytes l)) out (behind_entries index)) (none bytes ranges index last) ∙ sym (over_none out (behind_entries index)))
 
     -- tracks
     pub record TracksPut (out : List ℕ) (place index : ℕ) : Type 0 where
-      pub rest : Rest bytes ranges count place index
+      pub rest : Rest bytes ranges place index
       pub kept : length out ≡ length before
-      pub final : over (flatten tracks) before (behind_entries count) ≡ over (flatten (tracks_left index)) out place
-
-    pub tracks_first : all_inside bytes (counted bytes ranges count) ≡ true → TracksPut before (behind_entries count) 0
-    tracks_first all = record { rest = rest_first bytes ranges count long all; kept = refl; final = refl }
+      pub final : over (flatten tracks) before (behind_entries (length ranges)) ≡ over (flatten (tracks_left index)) out place
 
     module _ (room : bank_length tracks ≤ length before) {out : List ℕ} {place index : ℕ} (p : TracksPut out place index) where
-      pub tracks_more : (past : Range) (w : Written) → (more : index < count) → w ≡ write (part bytes (range bytes ranges count long p.rest past more)) out place
-          → TracksPut w.buffer (place + (get_or ranges index past).length) (index + 1)
+      pub tracks_more : (past : Range) (end : List ℕ) → (more : index < length ranges) → end ≡ over (bytes_of bytes (range bytes ranges p.rest past more)) out place
+          → TracksPut end (place + (get_or ranges index past).length) (index + 1)
       unfolding flatten
-      tracks_more past w more e =
-          let span = range bytes ranges count long p.rest past more in
-          let bound = rest_bound bytes ranges count long p.rest past more in
-          let size = rest_long bytes ranges count long p.rest past more in
-          let put = slice_put bytes span out place w (rest_inside bytes ranges count long p.rest past more) (omega (arith, p.kept)) e in
+      tracks_more past end more put =
+          let span = range bytes ranges p.rest past more in
+          let bound = rest_bound bytes ranges p.rest past more in
+          let size = rest_long bytes ranges p.rest past more in
           let behind = flatten (tracks_left (index + 1)) in
           record {
-            rest = rest_more bytes ranges count long p.rest past more;
+            rest = rest_more bytes ranges p.rest past more;
             kept = ap length put ∙ length_over (bytes_of bytes span) out place (omega (arith, p.kept)) ∙ p.kept;
             final =
                 p.final
-                ∙ ap (λ (ts : List (List ℕ)). over (flatten ts) out place) (rest_next bytes ranges count long p.rest past more)
+                ∙ ap (λ (ts : List (List ℕ)). over (flatten ts) out place) (rest_next bytes ranges p.rest past more)
                 ∙ sym (over_over (bytes_of bytes span) behind out place (omega (arith, p.kept)))
                 ∙ ap (λ (n : ℕ). over behind (over (bytes_of bytes span) out place) (place + n)) size
                 ∙ ap (λ (o : List ℕ). over behind o (place + span.length)) (sym put);
           }
 
-      pub tracks_all : count ≤ index → out ≡ over (flatten tracks) before (behind_entries count)
+      pub tracks_all : length ranges ≤ index → out ≡ over (flatten tracks) before (behind_entries (length ranges))
       unfolding flatten
       tracks_all last =
-          sym (p.final ∙ ap (λ (l : List Span). over (flatten (tracks_of bytes l)) out place) (none bytes ranges count long index last) ∙ sym (over_none out place))
+          sym (p.final ∙ ap (λ (l : List Span). over (flatten (tracks_of bytes l)) out place) (none bytes ranges index last) ∙ sym (over_none out place))

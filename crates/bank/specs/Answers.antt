@@ -1,23 +1,20 @@
 -- What the functions of this crate answer, in the terms of the definitions.
-use Rattle.std.specs.Prelude.{List, [], ◌++◌, map, ℕ, ◌-◌, length, replicate}
+use Rattle.base.specs.declared.Refusal.{Refusal}
+use Rattle.std.specs.Prelude.{List, [], ◌++◌, map, ℕ, ◌-◌, length, replicate, Err, Ok, Result}
 use Rattle.smf.specs.Answer.{Answer, gives, refuses}
 use Rattle.smf.specs.Place.{Span}
 use Rattle.smf.specs.Write.{Written}
 use Rattle.smf.specs.Event.{no_span}
 use Rattle.smf.specs.Lists.{ended, ListAt, holding, ListHeld, held_as}
 use Rattle.base.specs.Refusal.{number_of}
+use Rattle.base.specs.Said.{said}
 use Rattle.base.specs.declared.Range.{Range}
 use Rattle.meta.specs.Meta.{span_of}
+use Rattle.track.specs.List.{capacity}
 use Rattle.track.specs.Read.{list_read_of}
+use Rattle.track.specs.declared.read.ReadList.{ReadList}
+use Rattle.bank.specs.Bank.{most_tracks}
 use Rattle.bank.specs.declared.Bank.{Bank}
-use Rattle.bank.specs.declared.Verdict.{Verdict}
-use Rattle.bank.specs.declared.Verdict.TheVariants as verdict
-use Rattle.bank.specs.declared.read.ReadBank.{ReadBank}
-use Rattle.bank.specs.declared.read.BankTrack.{BankTrack}
-use Rattle.bank.specs.declared.read.BankTrack.TheVariants as track
-use Rattle.bank.specs.declared.list.ListedTrack.{ListedTrack}
-use Rattle.bank.specs.declared.writing.WroteBank.{WroteBank}
-use Rattle.bank.specs.declared.writing.WroteBank.TheVariants as wrote
 
 -- a bank that was read, as it is held: as many ranges as a bank may have, and how many of them are its tracks'
 pub record BankHeld : Type 0 where
@@ -36,11 +33,6 @@ spans_of ranges = map span_of ranges
 abbrev pub bank_of : Bank → BankHeld
 bank_of b = record { tracks = spans_of b.tracks; count = b.count }
 
--- whether something was accepted
-abbrev pub verdict_of : Verdict → Answer (Unit {0})
-verdict_of verdict.Accepted = gives tt
-verdict_of (verdict.Refused n) = refuses (number_of n)
-
 -- what reading a bank answers: the bank, and that it was accepted; else a bank of no tracks, and why
 pub record BankAnswer : Type 0 where
   pub bank : BankHeld
@@ -51,14 +43,14 @@ unfoldable pub bank_answer : ℕ → Answer (List Span) → BankAnswer
 bank_answer most (gives tracks) = record { bank = held_tracks most tracks; verdict = gives tt }
 bank_answer most (refuses n) = record { bank = held_tracks most []; verdict = refuses n }
 
--- what `read_bank` answers
-abbrev pub bank_read : ReadBank → BankAnswer
-bank_read r = record { bank = bank_of r.bank; verdict = verdict_of r.verdict }
+-- what `read_bank` answers; a refusal hands out no bank, and says one of no tracks
+abbrev pub bank_read : Result Bank Refusal → BankAnswer
+bank_read (Ok b) = record { bank = bank_of b; verdict = gives tt }
+bank_read (Err n) = record { bank = held_tracks most_tracks []; verdict = refuses (number_of n) }
 
 -- what `bank_track` answers
-abbrev pub bank_track : BankTrack → Answer Span
-bank_track (track.Track range) = gives (span_of range)
-bank_track (track.Refused n) = refuses (number_of n)
+abbrev pub bank_track : Result Range Refusal → Answer Span
+bank_track = said span_of
 
 -- what listing a track answers: the list, and that it was accepted; else an empty list, and why
 pub record ListAnswer : Type 0 where
@@ -74,15 +66,15 @@ unfoldable pub list_answer : ℕ → Answer ListAt → ListAnswer
 list_answer events (gives l) = record { list = held_as events l; verdict = gives tt }
 list_answer events (refuses n) = record { list = empty_list events; verdict = refuses n }
 
--- what `list_track` answers
-abbrev pub listed_track : ListedTrack → ListAnswer
-listed_track r = record { list = list_read_of r.read; verdict = verdict_of r.verdict }
+-- what `list_track` answers; a refusal hands out no list, and says an empty one
+abbrev pub listed_track : Result ReadList Refusal → ListAnswer
+listed_track (Ok r) = record { list = list_read_of r; verdict = gives tt }
+listed_track (Err n) = record { list = empty_list capacity; verdict = refuses (number_of n) }
 
 -- what `write_bank` answers: the total
-abbrev pub bank_wrote : WroteBank → Answer ℕ
-bank_wrote (wrote.Total n) = gives n
-bank_wrote (wrote.Refused n) = refuses (number_of n)
+abbrev pub bank_wrote : Result ℕ Refusal → Answer ℕ
+bank_wrote = said (λ n. n)
 
 -- and that, with what the buffer holds at the end
-abbrev pub bank_left : WroteBank → List ℕ → Written
+abbrev pub bank_left : Result ℕ Refusal → List ℕ → Written
 bank_left r buffer = record { buffer = buffer; answer = bank_wrote r }

@@ -1,5 +1,5 @@
 // The entries for banks, which C and Rust link: a block is bytes, and ranges go over as cells, the start and the length
-// of each.
+// of each. The C interface has the cells with a count beside them, and what is found in values lent by `&mut`.
 ghost use Rattle.std.specs.Prelude.{◌≡◌, List, ℕ, length};
 ghost use Rattle.smf.specs.Place.{Span};
 ghost use Rattle.smf.specs.Lists.{ListAt};
@@ -12,10 +12,11 @@ ghost use Rattle.bank.specs.Answers.{spans_of, held_tracks};
 ghost use Rattle.bank.specs.Entries.{cells_of, ranges_in, stop_answered, list_cells, list_leaves};
 
 use crate::blank::no_tracks;
-use crate::read::{BankTrack, bank_track, read_bank};
-use crate::writing::{WroteBank, write_bank};
-use crate::{Bank, TRACKS, Verdict};
+use crate::read::{bank_track, read_bank};
+use crate::writing::write_bank;
+use crate::{Bank, TRACKS};
 use base::Range;
+use loader::told;
 use loader_track::list_read::apk_list_read;
 
 // How many cells the ranges of a bank's tracks take.
@@ -26,12 +27,9 @@ fn cells_of(bank: Bank) -> [u64; CELLS]
     ensures { result ≡ cells_of (spans_of bank.tracks) }
 {
     let mut cells = [0u64; CELLS];
-    let mut index: usize = 0;
-    while index < TRACKS {
-        let range = bank.tracks[index];
+    for (index, range) in bank.tracks.iter().enumerate() {
         cells[2 * index] = range.start as u64;
         cells[2 * index + 1] = range.length as u64;
-        index += 1;
     }
     cells
 }
@@ -41,12 +39,10 @@ fn ranges_in(cells: [u64; CELLS]) -> [Range; TRACKS]
     ensures { spans_of result ≡ ranges_in most_tracks cells }
 {
     let mut ranges = no_tracks();
-    let mut index: usize = 0;
-    while index < TRACKS {
+    for (index, range) in ranges.iter_mut().enumerate() {
         let start = cells[2 * index] as usize;
         let length = cells[2 * index + 1] as usize;
-        ranges[index] = Range { start, length };
-        index += 1;
+        *range = Range { start, length };
     }
     ranges
 }
@@ -58,17 +54,9 @@ pub extern "C" fn apk_bank_read(block: &[u8], ranges: &mut [u64; CELLS], count: 
     ensures ranges { ranges.new ≡ leaves (λ (tracks : List Span). cells_of (held_tracks most_tracks tracks).tracks) (read_bank most_tracks block.now) ranges.old }
     ensures count { count.new ≡ leaves (λ (tracks : List Span). length tracks) (read_bank most_tracks block.now) count.old }
 {
-    let read = read_bank(block);
-    let bank = read.bank;
-    let verdict = read.verdict;
-    match verdict {
-        Verdict::Refused(refusal) => refusal.number(),
-        Verdict::Accepted => {
-            *ranges = cells_of(bank);
-            *count = bank.count;
-            0
-        }
-    }
+    let found = read_bank(block);
+    told(found.map(|bank| bank.count), count);
+    told(found.map(cells_of), ranges)
 }
 
 // Where the track of an index stands in the block of a bank.
@@ -83,14 +71,9 @@ pub extern "C" fn apk_bank_track(
     ensures start { start.new ≡ leaves (λ (track : Span). track.start) (track_at most_tracks block.now index) start.old }
     ensures length { length.new ≡ leaves (λ (track : Span). track.length) (track_at most_tracks block.now index) length.old }
 {
-    match bank_track(block, index) {
-        BankTrack::Refused(refusal) => refusal.number(),
-        BankTrack::Track(range) => {
-            *start = range.start;
-            *length = range.length;
-            0
-        }
-    }
+    let found = bank_track(block, index);
+    told(found.map(|range| range.start), start);
+    told(found.map(|range| range.length), length)
 }
 
 // The track of an index, listed as `apk_list_read` lists its bytes by themselves, from the first on and from no running
@@ -115,11 +98,10 @@ pub extern "C" fn apk_bank_list(
     ensures padding { padding.new ≡ list_leaves (λ (l : ListAt). l.padding) (track_listed (from_bits bits) capacity most_tracks block.now index) rows.old padding.old }
 {
     match bank_track(block, index) {
-        BankTrack::Refused(refusal) => refusal.number(),
-        BankTrack::Track(range) => {
-            let start = range.start;
-            let end = start + range.length;
-            let track = &block[start..end];
+        Err(refusal) => u8::from(refusal), // the C interface: what the reader of lists answers goes on as it is
+        Ok(range) => {
+            // cut as in `list_track`
+            let track = &block[range.start..range.start + range.length];
             apk_list_read(track, 0, 0, bits, rows, count, place, after, padding)
         }
     }
@@ -139,11 +121,5 @@ pub extern "C" fn apk_bank_write(
     ensures buffer { out.new ≡ (write_bank most_tracks bytes.now (ranges_in most_tracks ranges.now) count out.old).buffer }
     ensures total { total.new ≡ leaves (λ (n : ℕ). n) (write_bank most_tracks bytes.now (ranges_in most_tracks ranges.now) count out.old).answer total.old }
 {
-    match write_bank(bytes, ranges_in(*ranges), count, out) {
-        WroteBank::Refused(refusal) => refusal.number(),
-        WroteBank::Total(size) => {
-            *total = size;
-            0
-        }
-    }
+    told(write_bank(bytes, ranges_in(*ranges), count, out), total)
 }

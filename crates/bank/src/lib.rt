@@ -3,6 +3,7 @@
 
 mod blank;
 pub mod entries;
+mod inside;
 pub mod list;
 pub mod read;
 pub mod writing;
@@ -24,17 +25,8 @@ const ENTRY: usize = 8;
 // A bank that was read.
 #[derive(Clone, Copy)]
 pub struct Bank {
-    // where each track stands in the block; past the count start 0 and length 0
+    // where each track stands in the block; past the count start 0 and length 0, in fixed memory, with no heap
     pub tracks: [Range; TRACKS],
     // how many tracks there are
     pub count: usize,
-}
-
-// Whether something was accepted. It stands beside a bank and beside a list, since an enum can hold no array.
-#[derive(Clone, Copy)]
-pub enum Verdict {
-    // it was
-    Accepted,
-    // why it was not
-    Refused(Refusal),
 }

@@ -1,5 +1,5 @@
 // A bank, written of ranges of the bytes lent. All that can be refused is looked at before the first byte is written.
-ghost use Rattle.std.specs.Prelude.{◌≡◌, true, ◌+◌, ◌≤◌, ◌<◌, leb, length, take};
+ghost use Rattle.std.specs.Prelude.{◌≡◌, true, ◌+◌, ◌≤◌, ◌<◌, leb, length};
 ghost use mathlib.Core.List.{flatten};
 ghost use Rattle.smf.specs.Answer.{unless, gives};
 ghost use Rattle.smf.specs.Write.{over};
@@ -7,127 +7,106 @@ ghost use Rattle.bank.specs.Bank.{most_tracks, most_bytes, four_bytes, behind_en
 ghost use Rattle.bank.specs.Write.{all_inside, tracks_of, write_bank};
 ghost use Rattle.bank.specs.Answers.{spans_of, bank_wrote, bank_left};
 
+use crate::inside::Inside;
 use crate::{ENTRY, HEADER, LARGEST, TRACKS};
 use base::{Range, Refusal};
-use number::payload::{is_inside, write_slice};
+use number::payload::is_inside;
 
-// What writing a bank answers.
-#[derive(Clone, Copy)]
-pub enum WroteBank {
-    // how many bytes it has
-    Total(usize),
-    // 25, 19 or 20
-    Refused(Refusal),
-}
-
-// Whether the first so many ranges are inside the bytes lent.
-fn are_inside(bytes: &[u8], ranges: [Range; TRACKS], count: usize) -> bool
-    requires { count ≤ most_tracks }
-    ensures { result ≡ all_inside bytes.now (take count (spans_of ranges)) }
+// Whether ranges are inside the bytes lent.
+fn are_inside(bytes: &[u8], ranges: &[Range]) -> bool
+    ensures { result ≡ all_inside bytes.now (spans_of ranges.now) }
 {
-    let mut index: usize = 0;
-    while index < count {
-        if !is_inside(bytes, ranges[index]) {
-            return false;
-        }
-        index += 1;
-    }
-    true
+    ranges.iter().all(|range| is_inside(bytes, *range))
 }
 
-// How many bytes the bank of so many ranges has: 20 above the most.
-fn total(bytes: &[u8], ranges: [Range; TRACKS], count: usize) -> WroteBank
-    requires count_le_most_tracks { count ≤ most_tracks }
-    requires ranges_value { all_inside bytes.now (take count (spans_of ranges)) ≡ true }
-    ensures { bank_wrote result ≡ unless (leb (bank_length (tracks_of bytes.now (take count (spans_of ranges)))) most_bytes) 20 (gives (bank_length (tracks_of bytes.now (take count (spans_of ranges))))) }
-{
-    let mut sum = HEADER + ENTRY * count;
-    let mut index: usize = 0;
-    while index < count {
-        let range = ranges[index];
-        if LARGEST - sum < range.length {
-            return WroteBank::Refused(Refusal::NoRoom);
-        }
-        sum += range.length;
-        index += 1;
-    }
-    WroteBank::Total(sum)
-}
-
-// Puts a number as four bytes, the highest first.
+// Puts a number as four bytes, the highest first: `to_be_bytes`, with what it says in the terms of `smf`, for four callers.
 fn put_wide(number: usize, out: &mut [u8], at: usize)
     requires { (number ≤ most_bytes) × (at + 4 ≤ length out.old) }
     ensures { out.new ≡ over (four_bytes number) out.old at }
 {
-    let high = number / 65536;
-    let low = number % 65536;
-    out[at] = (high / 256) as u8;
-    out[at + 1] = (high % 256) as u8;
-    out[at + 2] = (low / 256) as u8;
-    out[at + 3] = (low % 256) as u8;
+    out[at..at + 4].copy_from_slice(&(number as u32).to_be_bytes());
 }
 
-// Puts the entries of so many tracks behind the count and the total.
-fn put_entries(bytes: &[u8], ranges: [Range; TRACKS], count: usize, out: &mut [u8])
-    requires count_le_most_tracks { count ≤ most_tracks }
-    requires ranges_value { all_inside bytes.now (take count (spans_of ranges)) ≡ true }
-    requires ranges_bound { bank_length (tracks_of bytes.now (take count (spans_of ranges))) ≤ most_bytes }
-    requires count_in_bounds { behind_entries count ≤ length out.old }
-    ensures { out.new ≡ over (entries (behind_entries count) (tracks_of bytes.now (take count (spans_of ranges)))) out.old 8 }
-{
-    let mut place = HEADER + ENTRY * count;
-    let mut index: usize = 0;
-    while index < count {
-        let entry = HEADER + ENTRY * index;
-        let range = ranges[index];
-        put_wide(place, out, entry);
-        put_wide(range.length, out, entry + 4);
-        place += range.length;
-        index += 1;
+impl<'a> Inside<'a> {
+    // How many bytes the bank of ranges has: 20 above the most.
+    fn total(self) -> Result<usize, Refusal>
+        requires { length self.ranges.now ≤ most_tracks }
+        ensures { bank_wrote result ≡ unless (leb (bank_length (tracks_of self.entry.bytes.now (spans_of self.entry.ranges.now))) most_bytes) 20 (gives (bank_length (tracks_of self.entry.bytes.now (spans_of self.entry.ranges.now)))) }
+    {
+        let ranges = self.ranges;
+        let mut sum = HEADER + ENTRY * ranges.len();
+        for range in ranges {
+            if LARGEST - sum < range.length {
+                return Err(Refusal::NoRoom); // above the most
+            }
+            sum += range.length;
+        }
+        Ok(sum)
     }
-}
 
-// Puts so many tracks behind their entries, one behind the other.
-fn put_tracks(bytes: &[u8], ranges: [Range; TRACKS], count: usize, out: &mut [u8])
-    requires count_le_most_tracks { count ≤ most_tracks }
-    requires ranges_value { all_inside bytes.now (take count (spans_of ranges)) ≡ true }
-    requires ranges_in_bounds { bank_length (tracks_of bytes.now (take count (spans_of ranges))) ≤ length out.old }
-    requires ranges_bound { bank_length (tracks_of bytes.now (take count (spans_of ranges))) ≤ most_bytes }
-    ensures { out.new ≡ over (flatten (tracks_of bytes.now (take count (spans_of ranges)))) out.old (behind_entries count) }
-{
-    let mut place = HEADER + ENTRY * count;
-    let mut index: usize = 0;
-    while index < count {
-        let range = ranges[index];
-        write_slice(bytes, range, out, place); // it is inside the bytes, and there is room: neither is refused
-        place += range.length;
-        index += 1;
+    // Puts the entries of tracks behind the count and the total.
+    fn put_entries(self, out: &mut [u8])
+        requires ranges_bound { bank_length (tracks_of self.bytes.now (spans_of self.ranges.now)) ≤ most_bytes }
+        requires count_in_bounds { behind_entries (length self.ranges.now) ≤ length out.old }
+        ensures { out.new ≡ over (entries (behind_entries (length self.entry.ranges.now)) (tracks_of self.entry.bytes.now (spans_of self.entry.ranges.now))) out.old 8 }
+    {
+        let ranges = self.ranges;
+        let mut place = HEADER + ENTRY * ranges.len();
+        for (index, range) in ranges.iter().enumerate() {
+            let entry = HEADER + ENTRY * index;
+            put_wide(place, out, entry);
+            put_wide(range.length, out, entry + 4);
+            place += range.length;
+        }
+    }
+
+    // Puts tracks behind their entries, one behind the other.
+    fn put_tracks(self, out: &mut [u8])
+        requires ranges_in_bounds { bank_length (tracks_of self.bytes.now (spans_of self.ranges.now)) ≤ length out.old }
+        requires ranges_bound { bank_length (tracks_of self.bytes.now (spans_of self.ranges.now)) ≤ most_bytes }
+        ensures { out.new ≡ over (flatten (tracks_of self.entry.bytes.now (spans_of self.entry.ranges.now))) out.old (behind_entries (length self.entry.ranges.now)) }
+    {
+        let bytes = self.bytes;
+        let ranges = self.ranges;
+        let mut place = HEADER + ENTRY * ranges.len();
+        for range in ranges {
+            let track = &bytes[range.start..range.start + range.length];
+            out[place..place + range.length].copy_from_slice(track);
+            place += range.length;
+        }
     }
 }
 
 // Writes the bank of so many ranges of the bytes lent from the first byte of a buffer on, and answers its total. Refuses
 // 25 where they are above the most, 19 where one is not inside the bytes, then 20 where the bank would be above the
 // most bytes, or above the room: then every byte is as it came. Ranges past the count are not looked at.
-pub fn write_bank(bytes: &[u8], ranges: [Range; TRACKS], count: usize, out: &mut [u8]) -> WroteBank
+pub fn write_bank(
+    bytes: &[u8],
+    // fixed memory, and what may not change: what stands past the count is promised not to matter (`write_bank`)
+    ranges: [Range; TRACKS],
+    count: usize,
+    out: &mut [u8],
+) -> Result<usize, Refusal>
     ensures { bank_left result out.new ≡ write_bank most_tracks bytes.now (spans_of ranges) count out.old }
 {
     if TRACKS < count {
-        return WroteBank::Refused(Refusal::TooManyTracks);
+        return Err(Refusal::TooManyTracks);
     }
-    if !are_inside(bytes, ranges, count) {
-        return WroteBank::Refused(Refusal::PayloadOutside);
+    let tracks = &ranges[..count];
+    if !are_inside(bytes, tracks) {
+        return Err(Refusal::PayloadOutside);
     }
-    match total(bytes, ranges, count) {
-        WroteBank::Refused(refusal) => WroteBank::Refused(refusal),
-        WroteBank::Total(size) => {
-            if out.len() < size {
-                return WroteBank::Refused(Refusal::NoRoom);
-            }
-            put_wide(count, out, 0);
-            put_wide(size, out, 4);
-            put_entries(bytes, ranges, count, out);
-            put_tracks(bytes, ranges, count, out);
-            WroteBank::Total(size)
-        }
+    let inside = Inside {
+        bytes,
+        ranges: tracks,
+    };
+    let size = inside.total()?;
+    if out.len() < size {
+        return Err(Refusal::NoRoom);
     }
+    put_wide(count, out, 0);
+    put_wide(size, out, 4);
+    inside.put_entries(out);
+    inside.put_tracks(out);
+    Ok(size)
 }

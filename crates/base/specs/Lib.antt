@@ -2,3 +2,4 @@
 pub mod Refusal
 pub mod Restricted
 pub mod Rules
+pub mod Said

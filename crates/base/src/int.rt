@@ -1,202 +1,268 @@
-// What the restricted numbers do, each in four functions as in the Rust: `max_value` is the largest; `new` keeps the low
-// bits of a number and drops the rest; `try_from` refuses a number above the width by 18; `as_int` gives the number back.
+// What the restricted numbers do, in the same functions as in the Rust: `max_value` is the largest; `new` keeps the low bits
+// of a number and drops the rest; `try_from` refuses a number above the width by 18; `as_int` gives the number back.
 // The field is public, so that a value may be above its width: readers never make such a one, and writers refuse it by 18.
-ghost use Rattle.std.specs.Prelude.{◌≡◌};
+// `low`, `as_int` and `try_from` stand in each impl alike: docs/RULES.md asks for tuple structs one by one, an impl may be
+// written by no macro of the repository's own, and a `TryFrom` for all that are `Restricted` would meet the library's.
+ghost use Rattle.std.specs.Prelude.{◌≡◌, ◌<◌, ℕ};
+ghost use Rattle.std.proofs.Common.{rules};
 ghost use Rattle.smf.specs.Width.{low_bits, largest, try_width};
+ghost use Rattle.base.specs.Said.{said};
 ghost use Rattle.base.specs.Restricted.{tried_u2, tried_u4, tried_u7, tried_u14, tried_u15, tried_u24};
 
-use crate::{
-    Refusal, TriedU2, TriedU4, TriedU7, TriedU14, TriedU15, TriedU24, u2, u4, u7, u14, u15, u24,
-};
+use crate::{Refusal, u2, u4, u7, u14, u15, u24};
 
-impl u2 {
-    const MASK: u8 = 0x3;
+// A number of so many bits: what is proved of one is proved of all, over the width.
+pub trait Restricted: Sized {
+    // The integer that holds it.
+    type Int: Into<u32>;
 
-    pub fn max_value() -> u2
-        ensures { result.0 ≡ largest 2 }
+    // How many bits it has.
+    ghost BITS: { ℕ };
+
+    const BITS: u32;
+
+    // The number that an integer is, and the one that a restricted number is.
+    ghost number: { Self.Int → ℕ };
+
+    ghost value: { Self → ℕ };
+
+    // The number that the low bits make of an integer that holds them all.
+    fn low(wide: u32) -> Self
+        ensures { value result ≡ low_bits BITS wide };
+
+    fn as_int(self) -> Self::Int
+        ensures { number result ≡ value self };
+
+    fn max_value() -> Self
+        ensures { value result ≡ largest BITS }
     {
-        u2(Self::MASK)
+        Self::low((1 << Self::BITS) - 1)
     }
 
-    pub fn new(raw: u8) -> u2
-        ensures { result.0 ≡ low_bits 2 raw }
+    fn new(raw: Self::Int) -> Self
+        ensures { value result ≡ low_bits BITS (number raw) }
     {
-        u2(raw & Self::MASK)
+        Self::low(raw.into())
     }
 
-    pub fn try_from(raw: u8) -> TriedU2
-        ensures { tried_u2 result ≡ try_width 2 raw }
-    {
-        if raw <= Self::MASK {
-            TriedU2::Made(u2(raw))
-        } else {
-            TriedU2::Refused(Refusal::AboveWidth)
-        }
+    // An integer is the same number in 32 bits, which hold them all.
+    ghost widened: { (raw : Self.Int) (n : ℕ) → Self.Int.Into.converts raw n → n ≡ number raw };
+
+    ghost in_32: { BITS < 32 };
+}
+
+// What `try_from` of each answers.
+pub fn tried<T: Restricted>(raw: T::Int) -> Result<T, Refusal>
+    ensures { said T.value result ≡ try_width T.BITS (T.number raw) }
+{
+    let wide: u32 = raw.into();
+    if wide < 1 << T::BITS {
+        Ok(T::low(wide))
+    } else {
+        Err(Refusal::AboveWidth)
+    }
+}
+
+impl Restricted for u2 {
+    type Int = u8;
+
+    ghost BITS = { 2 };
+
+    const BITS: u32 = 2;
+
+    ghost number = { λ n. n };
+
+    ghost value = { λ x. x.0 };
+
+    fn low(wide: u32) -> u2 {
+        u2((wide & 0x3) as u8)
     }
 
-    pub fn as_int(self) -> u8
-        ensures { result ≡ self.0 }
-    {
+    fn as_int(self) -> u8 {
         self.0 // an SMPTE rate code
     }
+
+    ghost widened = { λ raw n same. same };
+
+    ghost in_32 = { Prim.search rules };
 }
 
-impl u4 {
-    const MASK: u8 = 0xF;
+impl TryFrom<u8> for u2 {
+    type Error = Refusal;
 
-    pub fn max_value() -> u4
-        ensures { result.0 ≡ largest 4 }
-    {
-        u4(Self::MASK)
+    ghost try_from_gives = { λ raw r. tried_u2 r ≡ try_width 2 raw };
+
+    fn try_from(raw: u8) -> Result<u2, Refusal> {
+        tried::<u2>(raw)
+    }
+}
+
+impl Restricted for u4 {
+    type Int = u8;
+
+    ghost BITS = { 4 };
+
+    const BITS: u32 = 4;
+
+    ghost number = { λ n. n };
+
+    ghost value = { λ x. x.0 };
+
+    fn low(wide: u32) -> u4 {
+        u4((wide & 0xF) as u8)
     }
 
-    pub fn new(raw: u8) -> u4
-        ensures { result.0 ≡ low_bits 4 raw }
-    {
-        u4(raw & Self::MASK)
-    }
-
-    pub fn try_from(raw: u8) -> TriedU4
-        ensures { tried_u4 result ≡ try_width 4 raw }
-    {
-        if raw <= Self::MASK {
-            TriedU4::Made(u4(raw))
-        } else {
-            TriedU4::Refused(Refusal::AboveWidth)
-        }
-    }
-
-    pub fn as_int(self) -> u8
-        ensures { result ≡ self.0 }
-    {
+    fn as_int(self) -> u8 {
         self.0 // a channel
     }
+
+    ghost widened = { λ raw n same. same };
+
+    ghost in_32 = { Prim.search rules };
 }
 
-impl u7 {
-    const MASK: u8 = 0x7F;
+impl TryFrom<u8> for u4 {
+    type Error = Refusal;
 
-    pub fn max_value() -> u7
-        ensures { result.0 ≡ largest 7 }
-    {
-        u7(Self::MASK)
+    ghost try_from_gives = { λ raw r. tried_u4 r ≡ try_width 4 raw };
+
+    fn try_from(raw: u8) -> Result<u4, Refusal> {
+        tried::<u4>(raw)
+    }
+}
+
+impl Restricted for u7 {
+    type Int = u8;
+
+    ghost BITS = { 7 };
+
+    const BITS: u32 = 7;
+
+    ghost number = { λ n. n };
+
+    ghost value = { λ x. x.0 };
+
+    fn low(wide: u32) -> u7 {
+        u7((wide & 0x7F) as u8)
     }
 
-    pub fn new(raw: u8) -> u7
-        ensures { result.0 ≡ low_bits 7 raw }
-    {
-        u7(raw & Self::MASK)
-    }
-
-    pub fn try_from(raw: u8) -> TriedU7
-        ensures { tried_u7 result ≡ try_width 7 raw }
-    {
-        if raw <= Self::MASK {
-            TriedU7::Made(u7(raw))
-        } else {
-            TriedU7::Refused(Refusal::AboveWidth)
-        }
-    }
-
-    pub fn as_int(self) -> u8
-        ensures { result ≡ self.0 }
-    {
+    fn as_int(self) -> u8 {
         self.0 // a data byte
     }
+
+    ghost widened = { λ raw n same. same };
+
+    ghost in_32 = { Prim.search rules };
 }
 
-impl u14 {
-    const MASK: u16 = 0x3FFF;
+impl TryFrom<u8> for u7 {
+    type Error = Refusal;
 
-    pub fn max_value() -> u14
-        ensures { result.0 ≡ largest 14 }
-    {
-        u14(Self::MASK)
+    ghost try_from_gives = { λ raw r. tried_u7 r ≡ try_width 7 raw };
+
+    fn try_from(raw: u8) -> Result<u7, Refusal> {
+        tried::<u7>(raw)
+    }
+}
+
+impl Restricted for u14 {
+    type Int = u16;
+
+    ghost BITS = { 14 };
+
+    const BITS: u32 = 14;
+
+    ghost number = { λ n. n };
+
+    ghost value = { λ x. x.0 };
+
+    fn low(wide: u32) -> u14 {
+        u14((wide & 0x3FFF) as u16)
     }
 
-    pub fn new(raw: u16) -> u14
-        ensures { result.0 ≡ low_bits 14 raw }
-    {
-        u14(raw & Self::MASK)
-    }
-
-    pub fn try_from(raw: u16) -> TriedU14
-        ensures { tried_u14 result ≡ try_width 14 raw }
-    {
-        if raw <= Self::MASK {
-            TriedU14::Made(u14(raw))
-        } else {
-            TriedU14::Refused(Refusal::AboveWidth)
-        }
-    }
-
-    pub fn as_int(self) -> u16
-        ensures { result ≡ self.0 }
-    {
+    fn as_int(self) -> u16 {
         self.0 // a bend
     }
+
+    ghost widened = { λ raw n same. same };
+
+    ghost in_32 = { Prim.search rules };
 }
 
-impl u15 {
-    const MASK: u16 = 0x7FFF;
+impl TryFrom<u16> for u14 {
+    type Error = Refusal;
 
-    pub fn max_value() -> u15
-        ensures { result.0 ≡ largest 15 }
-    {
-        u15(Self::MASK)
+    ghost try_from_gives = { λ raw r. tried_u14 r ≡ try_width 14 raw };
+
+    fn try_from(raw: u16) -> Result<u14, Refusal> {
+        tried::<u14>(raw)
+    }
+}
+
+impl Restricted for u15 {
+    type Int = u16;
+
+    ghost BITS = { 15 };
+
+    const BITS: u32 = 15;
+
+    ghost number = { λ n. n };
+
+    ghost value = { λ x. x.0 };
+
+    fn low(wide: u32) -> u15 {
+        u15((wide & 0x7FFF) as u16)
     }
 
-    pub fn new(raw: u16) -> u15
-        ensures { result.0 ≡ low_bits 15 raw }
-    {
-        u15(raw & Self::MASK)
-    }
-
-    pub fn try_from(raw: u16) -> TriedU15
-        ensures { tried_u15 result ≡ try_width 15 raw }
-    {
-        if raw <= Self::MASK {
-            TriedU15::Made(u15(raw))
-        } else {
-            TriedU15::Refused(Refusal::AboveWidth)
-        }
-    }
-
-    pub fn as_int(self) -> u16
-        ensures { result ≡ self.0 }
-    {
+    fn as_int(self) -> u16 {
         self.0 // ticks per beat
     }
+
+    ghost widened = { λ raw n same. same };
+
+    ghost in_32 = { Prim.search rules };
 }
 
-impl u24 {
-    const MASK: u32 = 0xFF_FFFF;
+impl TryFrom<u16> for u15 {
+    type Error = Refusal;
 
-    pub fn max_value() -> u24
-        ensures { result.0 ≡ largest 24 }
-    {
-        u24(Self::MASK)
+    ghost try_from_gives = { λ raw r. tried_u15 r ≡ try_width 15 raw };
+
+    fn try_from(raw: u16) -> Result<u15, Refusal> {
+        tried::<u15>(raw)
+    }
+}
+
+impl Restricted for u24 {
+    type Int = u32;
+
+    ghost BITS = { 24 };
+
+    const BITS: u32 = 24;
+
+    ghost number = { λ n. n };
+
+    ghost value = { λ x. x.0 };
+
+    fn low(wide: u32) -> u24 {
+        u24(wide & 0xFF_FFFF)
     }
 
-    pub fn new(raw: u32) -> u24
-        ensures { result.0 ≡ low_bits 24 raw }
-    {
-        u24(raw & Self::MASK)
-    }
-
-    pub fn try_from(raw: u32) -> TriedU24
-        ensures { tried_u24 result ≡ try_width 24 raw }
-    {
-        if raw <= Self::MASK {
-            TriedU24::Made(u24(raw))
-        } else {
-            TriedU24::Refused(Refusal::AboveWidth)
-        }
-    }
-
-    pub fn as_int(self) -> u32
-        ensures { result ≡ self.0 }
-    {
+    fn as_int(self) -> u32 {
         self.0 // microseconds per beat
+    }
+
+    ghost widened = { λ raw n same. same };
+
+    ghost in_32 = { Prim.search rules };
+}
+
+impl TryFrom<u32> for u24 {
+    type Error = Refusal;
+
+    ghost try_from_gives = { λ raw r. tried_u24 r ≡ try_width 24 raw };
+
+    fn try_from(raw: u32) -> Result<u24, Refusal> {
+        tried::<u24>(raw)
     }
 }

@@ -6,8 +6,10 @@ pub mod int;
 pub mod refusals;
 pub mod status;
 
+pub use int::{Restricted, tried};
+
 // Why something was refused, in the order of the table's numbers: document 01, "Refusal numbers".
-#[derive(Clone, Copy)]
+#[derive(Clone, Copy, Debug, PartialEq, Eq)]
 pub enum Refusal {
     // 1: the running status is invalid, neither none (0) nor 80..EF
     RunningStatus,
@@ -68,100 +70,46 @@ pub enum Refusal {
 }
 
 // A number of two bits: the code of an SMPTE rate.
-#[derive(Clone, Copy)]
+#[derive(Clone, Copy, Debug, PartialEq, Eq)]
 pub struct u2(pub u8);
 
-// What `u2::try_from` answers.
-#[derive(Clone, Copy)]
-pub enum TriedU2 {
-    // the number, which fits
-    Made(u2),
-    // 18: it is above the width
-    Refused(Refusal),
-}
-
 // A number of four bits: a channel.
-#[derive(Clone, Copy)]
+#[derive(Clone, Copy, Debug, PartialEq, Eq)]
 pub struct u4(pub u8);
 
-// What `u4::try_from` answers.
-#[derive(Clone, Copy)]
-pub enum TriedU4 {
-    // the number, which fits
-    Made(u4),
-    // 18: it is above the width
-    Refused(Refusal),
-}
-
 // A number of seven bits, as a data byte holds it: a key, a velocity, a controller, a program, a port.
-#[derive(Clone, Copy)]
+#[derive(Clone, Copy, Debug, PartialEq, Eq)]
 pub struct u7(pub u8);
 
-// What `u7::try_from` answers.
-#[derive(Clone, Copy)]
-pub enum TriedU7 {
-    // the number, which fits
-    Made(u7),
-    // 18: it is above the width
-    Refused(Refusal),
-}
-
 // A number of 14 bits: a raw bend.
-#[derive(Clone, Copy)]
+#[derive(Clone, Copy, Debug, PartialEq, Eq)]
 pub struct u14(pub u16);
 
-// What `u14::try_from` answers.
-#[derive(Clone, Copy)]
-pub enum TriedU14 {
-    // the number, which fits
-    Made(u14),
-    // 18: it is above the width
-    Refused(Refusal),
-}
-
 // A number of 15 bits: ticks in a beat.
-#[derive(Clone, Copy)]
+#[derive(Clone, Copy, Debug, PartialEq, Eq)]
 pub struct u15(pub u16);
 
-// What `u15::try_from` answers.
-#[derive(Clone, Copy)]
-pub enum TriedU15 {
-    // the number, which fits
-    Made(u15),
-    // 18: it is above the width
-    Refused(Refusal),
-}
-
 // A number of 24 bits: microseconds in a beat.
-#[derive(Clone, Copy)]
+#[derive(Clone, Copy, Debug, PartialEq, Eq)]
 pub struct u24(pub u32);
-
-// What `u24::try_from` answers.
-#[derive(Clone, Copy)]
-pub enum TriedU24 {
-    // the number, which fits
-    Made(u24),
-    // 18: it is above the width
-    Refused(Refusal),
-}
 
 // The rules of a call. Whoever reads, judges, measures or writes is given them and passes them on, so that a rule that is
 // added moves only what looks at it.
-#[derive(Clone, Copy)]
+#[derive(Clone, Copy, Debug, PartialEq, Eq)]
 pub struct Rules {
     // whether reading refuses what it else takes as it stands: the Rust's feature `strict`, at run time
     pub strict: bool,
 }
 
 // The running status, the status byte that the next event may leave out: the Rust's `Option<u8>`.
-#[derive(Clone, Copy)]
+#[derive(Clone, Copy, Debug, PartialEq, Eq)]
 pub struct Running {
     // 80..EF, or 0 for none; any other is invalid
     pub status: u8,
 }
 
 // Where a payload stands in the bytes lent: the Rust's `&'a [u8]` in a kind.
-#[derive(Clone, Copy)]
+#[derive(Clone, Copy, Debug, PartialEq, Eq)]
 pub struct Range {
     // the place of its first byte
     pub start: usize,

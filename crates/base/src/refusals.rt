@@ -3,13 +3,13 @@ ghost use Rattle.std.specs.Prelude.{◌≡◌};
 ghost use Rattle.base.specs.Refusal.{number_of};
 
 use crate::Refusal;
+// The number in the table, which is what a caller in C is told and what the programs print. There is no `Display`: nothing could
+// be promised of its text.
+impl From<Refusal> for u8 {
+    ghost from_gives = { λ refusal n. n ≡ number_of refusal };
 
-impl Refusal {
-    // The number in the table, which is what a caller in C is told.
-    pub fn number(self) -> u8
-        ensures { result ≡ number_of self }
-    {
-        match self {
+    fn from(refusal: Refusal) -> u8 {
+        match refusal {
             Refusal::RunningStatus => 1,
             Refusal::NumberCutOff => 2,
             Refusal::NumberContinues => 3,

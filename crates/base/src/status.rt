@@ -6,16 +6,11 @@ use crate::Running;
 
 impl Running {
     // Whether it is valid: none, which is 0, or a channel status, 80..EF.
+    #[tactic(auto, unfolding(smf::specs::Running::is_running))]
     pub fn is_valid(self) -> bool
         ensures { result ≡ is_running self.status }
     {
         let status = self.status;
-        if status == 0 {
-            return true;
-        }
-        if status < 0x80 {
-            return false;
-        }
-        status < 0xF0
+        status == 0 || (0x80 <= status && status < 0xF0)
     }
 }

@@ -19,6 +19,7 @@ use Rattle.claims.proofs.BankEntries.{of_entries}
 use Rattle.claims.proofs.Padding.{padding, entry_padding}
 use Rattle.claims.proofs.SmfForms.{smf_forms}
 use Rattle.claims.proofs.Literals.{literals}
+use Rattle.claims.proofs.OfTypes.{of_types}
 
 pub all : All
 all =
@@ -29,6 +30,7 @@ all =
       identical = identical;
       entries = entries;
       every_input = every_input;
+      of_types = of_types;
       point_1 = point_1;
       entry_point_1 = entry_point_1;
       lent_running = lent_running;

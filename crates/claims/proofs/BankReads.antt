@@ -1,11 +1,14 @@
 -- What is told of a bank that was read: its ranges, as the code holds them and as cells, are those of its tracks.
+use Rattle.std.specs.Prelude.{Result, Ok, Err}
 use mathlib.Core.Path.{◌≡◌, refl, sym, ap, ◌∙◌}
 use mathlib.Core.List.{List, [], ◌∷◌, ◌++◌, append_assoc}
 use Prim.Native.Nat.{ℕ, ◌+◌, ◌-◌, ◌*◌, ◌≤◌, ◌<◌}
 use native.Mathlib.Omega.{arith}
 use lib.ListN.{length, take, get_or, replicate, length-append, length-replicate}
 use lib.Seq.{take-append_seam, get_or-append_seam, get_or-append-add, get_or-take}
-use Rattle.smf.specs.Answer.{gives, refuses}
+use Rattle.smf.specs.Answer.{Answer, gives, refuses}
+use Rattle.base.specs.Refusal.{number_of}
+use Rattle.base.specs.declared.Refusal.{Refusal}
 use Rattle.smf.specs.Place.{Span}
 use Rattle.smf.specs.Event.{no_span}
 use Rattle.smf.specs.Write.{Written}
@@ -15,12 +18,10 @@ use Rattle.loader.specs.Entry.{answered}
 use Rattle.bank.specs.Bank.{most_tracks, bank_length, IsBank}
 use Rattle.bank.specs.Read.{ranges, read_bank, track_at}
 use Rattle.bank.specs.Write.{tracks_of, write_bank}
-use Rattle.bank.specs.Answers.{BankAnswer, held_tracks, spans_of, verdict_of, bank_answer, bank_read}
+use Rattle.bank.specs.Answers.{BankAnswer, held_tracks, spans_of, bank_answer}
 use Rattle.bank.specs.Entries.{cells_of, range_in, ranges_in}
-use Rattle.bank.specs.declared.Verdict.TheVariants as verdict
-use Rattle.bank.specs.declared.read.ReadBank.{ReadBank}
-use Rattle.bank.proofs.Identical.{verdict_of_injective}
-use Rattle.bank.proofs.Answered.{bank_told, told_count, told_tracks}
+use Rattle.claims.specs.Handed.{ReadBank, verdict_of}
+use Rattle.claims.proofs.Handed.{bank_shown, verdict_of_injective}
 use Rattle.bank.proofs.Encoded.{bank_length_lem}
 use Rattle.bank.proofs.OneForm.{read_few, read_inside}
 use Rattle.claims.specs.Table.{of_bank}
@@ -74,9 +75,9 @@ pub given_tracks : (block : List ℕ) (held : List Span) (count : ℕ) → Given
 given_tracks block held count g tracks spans e is = let same : take count held ≡ spans = cc (g.read, e) in ap (tracks_of block) same ∙ is
 
 -- of `read_bank`
-module _ (block : List ℕ) (r : ReadBank) (told : bank_read r ≡ bank_answer most_tracks (read_bank most_tracks block)) where
+module _ (block : List ℕ) (r : ReadBank) (told : bank_shown r ≡ bank_answer most_tracks (read_bank most_tracks block)) where
   -- where it is a bank
-  pub read_accepts : (spans : List Span) → read_bank most_tracks block ≡ gives spans → (r.verdict ≡ verdict.Accepted) × Given block (spans_of r.bank.tracks) r.bank.count
+  pub read_accepts : (spans : List Span) → read_bank most_tracks block ≡ gives spans → (r.verdict ≡ Ok tt) × Given block (spans_of r.bank.tracks) r.bank.count
   unfolding bank_answer held_tracks
   read_accepts spans e =
       let t = rw e at told in (
@@ -88,11 +89,31 @@ module _ (block : List ℕ) (r : ReadBank) (told : bank_read r ≡ bank_answer m
   unfolding bank_answer
   read_refuses n e = let t = rw e at told in ap (λ (b : BankAnswer). b.verdict) t
 
+  given_of : (asked : Answer (List Span)) → read_bank most_tracks block ≡ asked → r.verdict ≡ Ok tt → Given block (spans_of r.bank.tracks) r.bank.count
+  given_of (gives spans) e ok = (read_accepts spans e).1
+  given_of (refuses n) e ok =
+      let said : gives (tt {0}) ≡ refuses n = rw ok at (read_refuses n e) in
+      let z : ◌≡◌ {A = ℕ} 0 1 = cc in
+      absurd (omega arith)
+
+  refused_of : (asked : Answer (List Span)) → read_bank most_tracks block ≡ asked → (n : Refusal) → r.verdict ≡ Err n → read_bank most_tracks block ≡ refuses (number_of n)
+  refused_of (gives spans) e n not =
+      let said : ◌≡◌ {A = Result (Unit {0}) Refusal} (Err n) (Ok tt) = rw not at (read_accepts spans e).0 in
+      let z : ◌≡◌ {A = ℕ} 0 1 = cc in
+      absurd (omega arith)
+  refused_of (refuses m) e n not =
+      let said : ◌≡◌ {A = Answer (Unit {0})} (refuses (number_of n)) (refuses m) = rw not at (read_refuses m e) in
+      let same : number_of n ≡ m = cc in
+      e ∙ ap refuses (sym same)
+
   -- where it was accepted
-  pub read_given : r.verdict ≡ verdict.Accepted → Given block (spans_of r.bank.tracks) r.bank.count
+  pub read_given : r.verdict ≡ Ok tt → Given block (spans_of r.bank.tracks) r.bank.count
   read_given ok =
-      let t = bank_told most_tracks r (read_bank most_tracks block) told ok in
-      held_given block t.tracks _ _ t.there (told_tracks t) (told_count t)
+      given_of (read_bank most_tracks block) refl ok
+
+  -- where it was refused
+  pub bank_no : (n : Refusal) → r.verdict ≡ Err n → read_bank most_tracks block ≡ refuses (number_of n)
+  bank_no n not = refused_of (read_bank most_tracks block) refl n not
 
 -- of `apk_bank_read`
 module _ (block cells : List ℕ) (count : ℕ) {r : ℕ} {cells' : List ℕ} {count' : ℕ}

@@ -1,14 +1,15 @@
 -- Two answers that a promise permits say the same, and no two answers say the same: so they are one.
+use Rattle.std.specs.Prelude.{Result}
 use mathlib.Core.Path.{◌≡◌, sym, ap, ◌∙◌}
 use mathlib.Core.List.{List}
 use Prim.Native.Nat.{ℕ}
 use lib.ListN.{get_or}
 use Rattle.smf.specs.Write.{Written}
 use Rattle.smf.specs.Event.{Same}
-use Rattle.smf.specs.Lists.{Held, SameList}
+use Rattle.smf.specs.Lists.{SameList}
 use Rattle.track.specs.List.{capacity}
 use Rattle.number.specs.Varlen.{write_left}
-use Rattle.number.specs.declared.varlen.WroteNumber as varlen
+use Rattle.base.specs.declared.Refusal.{Refusal}
 use Rattle.base.proofs.IdenticalNumbers.{tried_u2_injective, tried_u4_injective, tried_u7_injective, tried_u14_injective, tried_u15_injective, tried_u24_injective}
 use Rattle.number.proofs.Identical.{tried_u28_injective, number_read_injective, written_to_injective}
 use Rattle.number.proofs.IdenticalPayloads.{slice_read_injective}
@@ -27,9 +28,8 @@ use Rattle.rows.specs.RowLists.{called_rows}
 use Rattle.rows.proofs.Identical.{row_answer_injective}
 use Rattle.same.specs.OfRows.{rows_asked, lists_asked}
 use Rattle.same.proofs.Identical.{tells_identical, says_identical}
-use Rattle.player.specs.Table.{Table}
-use Rattle.player.specs.Answers.{Beside}
 use Rattle.bank.proofs.Identical.{bank_read_injective, bank_track_injective, listed_track_injective, bank_left_injective}
+use Rattle.claims.proofs.Handed.{table_said_injective, list_said_injective}
 use Rattle.claims.specs.Calls.{first, second, third, fourth, fifth, sixth}
 use Rattle.claims.proofs.Agree.{joined}
 use Rattle.claims.specs.Identical.{Numbers, Headers, Bends, Events, Lists, Notes, Programs, Identical}
@@ -54,7 +54,7 @@ unfolding row_of
 row_numbers_injective e = ap row_of e
 
 -- a write's answer and its buffer
-write_left_injective : {x y : varlen.WroteNumber} {b d : List ℕ} → write_left x b ≡ write_left y d → (x ≡ y) × (b ≡ d)
+write_left_injective : {x y : Result ℕ Refusal} {b d : List ℕ} → write_left x b ≡ write_left y d → (x ≡ y) × (b ≡ d)
 write_left_injective e = (written_to_injective (ap (λ (w : Written). w.answer) e), ap (λ (w : Written). w.buffer) e)
 
 numbers : Numbers
@@ -64,30 +64,37 @@ numbers =
       u2_new = λ κs a y z d e p q. ap (λ (n : ℕ). record { 0 = n }) (p ∙ sym q);
       u2_try_from = λ κs a y z d e p q. tried_u2_injective (p ∙ sym q);
       u2_as_int = λ κs a y z d e p q. p ∙ sym q;
+      u2_low = λ κs a y z d e p q. ap (λ (n : ℕ). record { 0 = n }) (p ∙ sym q);
       u4_max_value = λ κs a y z d e p q. ap (λ (n : ℕ). record { 0 = n }) (p ∙ sym q);
       u4_new = λ κs a y z d e p q. ap (λ (n : ℕ). record { 0 = n }) (p ∙ sym q);
       u4_try_from = λ κs a y z d e p q. tried_u4_injective (p ∙ sym q);
       u4_as_int = λ κs a y z d e p q. p ∙ sym q;
+      u4_low = λ κs a y z d e p q. ap (λ (n : ℕ). record { 0 = n }) (p ∙ sym q);
       u7_max_value = λ κs a y z d e p q. ap (λ (n : ℕ). record { 0 = n }) (p ∙ sym q);
       u7_new = λ κs a y z d e p q. ap (λ (n : ℕ). record { 0 = n }) (p ∙ sym q);
       u7_try_from = λ κs a y z d e p q. tried_u7_injective (p ∙ sym q);
       u7_as_int = λ κs a y z d e p q. p ∙ sym q;
+      u7_low = λ κs a y z d e p q. ap (λ (n : ℕ). record { 0 = n }) (p ∙ sym q);
       u14_max_value = λ κs a y z d e p q. ap (λ (n : ℕ). record { 0 = n }) (p ∙ sym q);
       u14_new = λ κs a y z d e p q. ap (λ (n : ℕ). record { 0 = n }) (p ∙ sym q);
       u14_try_from = λ κs a y z d e p q. tried_u14_injective (p ∙ sym q);
       u14_as_int = λ κs a y z d e p q. p ∙ sym q;
+      u14_low = λ κs a y z d e p q. ap (λ (n : ℕ). record { 0 = n }) (p ∙ sym q);
       u15_max_value = λ κs a y z d e p q. ap (λ (n : ℕ). record { 0 = n }) (p ∙ sym q);
       u15_new = λ κs a y z d e p q. ap (λ (n : ℕ). record { 0 = n }) (p ∙ sym q);
       u15_try_from = λ κs a y z d e p q. tried_u15_injective (p ∙ sym q);
       u15_as_int = λ κs a y z d e p q. p ∙ sym q;
+      u15_low = λ κs a y z d e p q. ap (λ (n : ℕ). record { 0 = n }) (p ∙ sym q);
       u24_max_value = λ κs a y z d e p q. ap (λ (n : ℕ). record { 0 = n }) (p ∙ sym q);
       u24_new = λ κs a y z d e p q. ap (λ (n : ℕ). record { 0 = n }) (p ∙ sym q);
       u24_try_from = λ κs a y z d e p q. tried_u24_injective (p ∙ sym q);
       u24_as_int = λ κs a y z d e p q. p ∙ sym q;
+      u24_low = λ κs a y z d e p q. ap (λ (n : ℕ). record { 0 = n }) (p ∙ sym q);
       u28_max_value = λ κs a y z d e p q. ap (λ (n : ℕ). record { 0 = n }) (p ∙ sym q);
       u28_new = λ κs a y z d e p q. ap (λ (n : ℕ). record { 0 = n }) (p ∙ sym q);
       u28_try_from = λ κs a y z d e p q. tried_u28_injective (p ∙ sym q);
       u28_as_int = λ κs a y z d e p q. p ∙ sym q;
+      u28_low = λ κs a y z d e p q. ap (λ (n : ℕ). record { 0 = n }) (p ∙ sym q);
       refusal_number = λ κs a y z d e p q. p ∙ sym q;
       is_valid = λ κs a y z d e p q. p ∙ sym q;
       read_u7 = λ κs a y z d e p q. number_read_injective (p ∙ sym q);
@@ -186,9 +193,8 @@ notes =
     record {
       fresh = λ κs a y z d e p q. p ∙ sym q;
       counts = λ κs a y z d e p q. p ∙ sym q;
-      after = λ κs a y z d e p q. let same = p ∙ sym q in joined (ap (λ (b : Beside Table). b.value) same, ap (λ (b : Beside Table). b.number) same);
-      silence = λ κs a y z d e p q.
-          let same = p ∙ sym q in joined (held_of_injective (ap (λ (b : Beside Held). b.value) same), ap (λ (b : Beside Held). b.number) same);
+      after = λ κs a y z d e p q. table_said_injective (p ∙ sym q);
+      silence = λ κs a y z d e p q. list_said_injective (p ∙ sym q);
     }
 
 programs : Programs

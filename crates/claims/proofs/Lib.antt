@@ -1,3 +1,4 @@
+pub mod Handed
 pub mod Calls
 pub mod Agree
 pub mod Refusals
@@ -9,6 +10,7 @@ pub mod ListLeaves
 pub mod SmfReads
 pub mod SmfForms
 pub mod Literals
+pub mod OfTypes
 pub mod Worked
 pub mod Shortest
 pub mod LentRunning

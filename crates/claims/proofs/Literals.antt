@@ -1,4 +1,8 @@
 -- The literals follow from the definitions that the promises cite.
+use Rattle.base.specs.declared.Refusal.{Refusal}
+use Rattle.event.specs.declared.read.EventRefused.{EventRefused}
+use Rattle.event.specs.declared.read.EventAt.{EventAt}
+use Rattle.std.specs.Prelude.{Err, Ok, Result}
 use mathlib.Core.Path.{◌≡◌, refl, sym, ap, ◌∙◌, subst}
 use mathlib.Core.Bool.{Bool, true, false, ◌||◌}
 use mathlib.Core.List.{List, [], ◌∷◌, ◌++◌, map}
@@ -30,17 +34,13 @@ use Rattle.base.specs.declared.Rules as base
 use Rattle.base.specs.declared.Running.{Running}
 use Rattle.base.specs.declared.Range.{Range}
 use Rattle.number.specs.Varlen.{written_to, write_left}
-use Rattle.number.specs.declared.varlen.WroteNumber.{WroteNumber}
 use Rattle.header.specs.Fps.{rate_of}
 use Rattle.header.specs.Smpte.{smpte_time_of}
 use Rattle.event.specs.Event.{event_of, event_read}
 use Rattle.event.specs.Lent.{read_running, Leaves}
-use Rattle.event.specs.declared.read.ReadEvent.{ReadEvent}
 use Rattle.track.specs.List.{record_of}
 use Rattle.rows.specs.RowLists.{are_rows, rows_judged}
 use Rattle.same.specs.OfRows.{lists_asked, Says}
-use Rattle.same.specs.declared.of_rows.Sameness.{Sameness}
-use Rattle.same.specs.declared.of_rows.Sameness.TheVariants as sameness
 use Rattle.track.specs.Read.{list_read_of}
 use Rattle.track.specs.declared.read.ReadList.{ReadList}
 use Rattle.rows.specs.RowEvent.{is_row, event_of_row}
@@ -179,7 +179,7 @@ room_only bs s at =
     pick_test (λ (w : Written). w.answer ≡ refuses 22 → ⊥) (leb (at + length bs) (length s))
     (λ _ e. let z : ◌≡◌ {A = ℕ} 0 1 = cc in omega arith) (λ _ e. let z : ◌≡◌ {A = ℕ} 20 22 = cc in omega arith)
 
-limit_said : (bytes : List ℕ) (slice : Range) (out : List ℕ) (at : ℕ) (r : WroteNumber) (end : List ℕ)
+limit_said : (bytes : List ℕ) (slice : Range) (out : List ℕ) (at : ℕ) (r : Result ℕ Refusal) (end : List ℕ)
     → write_left r end ≡ write (payload_bytes bytes slice.start slice.length) out at
     → slice.start + slice.length ≤ length bytes
     → (268435455 < slice.length → (written_to r ≡ refuses 22) × (end ≡ out)) × (slice.length ≤ 268435455 → written_to r ≡ refuses 22 → ⊥)
@@ -192,7 +192,7 @@ limit_said bytes slice out at r end told inside = (
 
 -- What a refusal leaves
 
-lent : (raw : List ℕ) (at : ℕ) (running : Running) (rules : base.Rules) (r : ReadEvent) (left : Running)
+lent : (raw : List ℕ) (at : ℕ) (running : Running) (rules : base.Rules) (r : Result EventAt EventRefused) (left : Running)
     → Leaves (event_at (rules_of rules) running.status raw at) r left → LeftBehind rules raw at running (event_read r) left.status
 lent raw at running rules r left l =
     subst (λ (x : ReadAt). LeftBehind rules raw at running x left.status) (sym l.0)
@@ -223,12 +223,12 @@ left_behind =
     record { read_step = λ κs a z e told. lent a.0.now a.1.0 a.1.1.0 a.1.1.1.0 z.read z.running told; lent = lent }
 
 -- an answer to what cannot be compared
-said_number : (n : ℕ) (Rule : Type 0) (z : Sameness) → Says z (refuses n) Rule → sameness_answered z ≡ n
-said_number n Rule (sameness.Told told) s = absurd s
-said_number n Rule (sameness.Refused m) s = s
+said_number : (n : ℕ) (Rule : Type 0) (z : Result Bool Refusal) → Says z (refuses n) Rule → sameness_answered z ≡ n
+said_number n Rule (Ok told) s = absurd s
+said_number n Rule (Err m) s = s
 
 module _ (a : List ℕ) (m : ℕ) (b : List ℕ) (n : ℕ) where
-  sheets_refused : (Rule : Type 0) (z : Sameness) → Says z (lists_asked 128 a m b n) Rule → SheetsRefused a m b n (sameness_answered z)
+  sheets_refused : (Rule : Type 0) (z : Result Bool Refusal) → Says z (lists_asked 128 a m b n) Rule → SheetsRefused a m b n (sameness_answered z)
   unfolding lists_asked
   sheets_refused Rule z told =
       record {

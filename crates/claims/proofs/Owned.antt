@@ -1,4 +1,5 @@
 -- What the kit knows of a value of its type: a list's array is full, and the type of each `Unknown` is a byte; a table has all its channels and keys, and the ranges of a bank are as many as it may have tracks.
+use Rattle.std.specs.Prelude.{None, Option, Some, ℕ}
 use mathlib.Core.Path.{◌≡◌}
 use mathlib.Core.List.{List, [], ◌∷◌, map}
 use lib.ListN.{length}
@@ -11,8 +12,6 @@ use borrow.Fn.Kinds.{Dens, GoodsP}
 use borrow.Kind.Array.{good_length, e_struct}
 use Rattle.smf.specs.Event.{carries, meta_carries}
 use Rattle.meta.specs.Meta.{number_meta, meta_of}
-use Rattle.meta.specs.declared.OptionU16.{OptionU16}
-use Rattle.meta.specs.declared.OptionU16.TheVariants as option
 use Rattle.meta.specs.declared.MetaMessage.{MetaMessage}
 use Rattle.meta.specs.declared.MetaMessage.TheVariants as meta
 use Rattle.meta.specs.contracts.MetaMessage as message
@@ -35,10 +34,10 @@ use Rattle.bank.specs.Bank.{most_tracks}
 use Rattle.bank.proofs.writing.write_bank as write_bank_lem
 use Rattle.claims.proofs.Carried.{TypeByte, TypeBytes}
 
-number_type : (n : OptionU16) → TypeByte (meta_carries (number_meta n))
+number_type : (n : Option ℕ) → TypeByte (meta_carries (number_meta n))
 unfolding meta_carries
-number_type (option.Some n) = tt
-number_type option.None = tt
+number_type (Some n) = tt
+number_type None = tt
 
 meta_type : (m : MetaMessage) (vs : List Val) → shadow ((message.the_field).row.own_val ((message.the_field).into m) vs) → TypeByte (meta_carries (meta_of m))
 unfolding meta_carries

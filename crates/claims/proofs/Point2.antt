@@ -1,4 +1,9 @@
 -- Point 2, proved: the promises say it; and the definitions, computed on document 01's bytes, shut the three readers out.
+use Rattle.write.specs.declared.answer.WriteRefused.{WriteRefused}
+use Rattle.std.specs.Prelude.{Result}
+use Rattle.base.specs.declared.Refusal.{Refusal}
+use Rattle.write.specs.declared.answer.Past.{Past}
+use Rattle.number.specs.declared.varlen.NumberAt as code
 use mathlib.Core.Path.{◌≡◌, refl, sym, ap, ◌∙◌}
 use mathlib.Core.Bool.{true}
 use mathlib.Core.List.{List, [], ◌∷◌, ◌++◌}
@@ -23,14 +28,12 @@ use Rattle.base.specs.Rules.{rules_of}
 use Rattle.number.specs.Varlen.{number_read_of}
 use Rattle.base.specs.declared.Rules as base
 use Rattle.base.specs.declared.Running.{Running}
-use Rattle.number.specs.declared.varlen.ReadNumber.{ReadNumber}
 use Rattle.event.specs.Event.{event_of}
 use Rattle.event.specs.declared.TrackEvent.{TrackEvent}
 use Rattle.track.specs.List.{capacity}
 use Rattle.track.specs.Read.{list_read_of}
 use Rattle.track.specs.declared.read.ReadList.{ReadList}
 use Rattle.write.specs.Wrote.{wrote_event}
-use Rattle.write.specs.declared.answer.WroteEvent.{WroteEvent}
 use Rattle.claims.specs.Calls.{EventListRead}
 use Rattle.claims.specs.Point2.{own_written, p1, p2, p3, nth, TwoEvents, OtherEvent, Point2}
 use Rattle.claims.proofs.Calls as calls
@@ -119,7 +122,7 @@ legal_written : (running : ℕ) (j : Answer (Event (List ℕ))) (out : List ℕ)
 unfolding write_event write_judged put
 legal_written running j out at l is h room = rw (is, h, le-leb _ _ room)
 
-legal_said : (event : TrackEvent) (running : Running) (rules : base.Rules) (bytes out : List ℕ) (at : ℕ) (r : WroteEvent) (end : List ℕ)
+legal_said : (event : TrackEvent) (running : Running) (rules : base.Rules) (bytes out : List ℕ) (at : ℕ) (r : Result Past WriteRefused) (end : List ℕ)
     → wrote_event r end ≡ write_event running.status (legal (rules_of rules) bytes (event_of event)) out at
     → (e : Event (List ℕ)) → is_running running.status ≡ true → legal (rules_of rules) bytes (event_of event) ≡ gives e → at + length (encode_event running.status e) ≤ length out
     → wrote_event r end ≡ own_written running.status e out at
@@ -141,11 +144,11 @@ number_only rules s at m strict e =
     let u = smf_number rules strict (drop at s) (numeral m.value (drop m.next s)) r.read in
     (u.0, u.2, u.3, u.1)
 
-number_said : (raw : List ℕ) (at : ℕ) (rules : base.Rules) (r : ReadNumber) → number_read_of r ≡ number_at (rules_of rules) raw at
+number_said : (raw : List ℕ) (at : ℕ) (rules : base.Rules) (r : Result code.NumberAt Refusal) → number_read_of r ≡ number_at (rules_of rules) raw at
     → (n rest : List ℕ) → is_number 4 n ≡ true → drop at raw ≡ n ++ rest → number_read_of r ≡ gives (record { value = value_from 0 n; next = at + length n; padding = beyond_fewest (length n) (value_from 0 n) })
 number_said raw at rules r told n rest is e = told ∙ number_placed_lem (rules_of rules) raw at n rest is e
 
-only_said : (raw : List ℕ) (at : ℕ) (rules : base.Rules) (r : ReadNumber) → number_read_of r ≡ number_at (rules_of rules) raw at
+only_said : (raw : List ℕ) (at : ℕ) (rules : base.Rules) (r : Result code.NumberAt Refusal) → number_read_of r ≡ number_at (rules_of rules) raw at
     → (m : NumberAt) → rules.strict ≡ true → number_read_of r ≡ gives m
     → (n : List ℕ) × (is_number 4 n ≡ true) × (m.value ≡ value_from 0 n) × (drop at raw ≡ n ++ drop m.next raw)
 only_said raw at rules r told m strict e = number_only (rules_of rules) raw at m strict (sym told ∙ e)

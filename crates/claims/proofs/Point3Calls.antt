@@ -1,4 +1,9 @@
 -- Point 3, proved of whatever the promises permit: what they say is the definitions', of which it holds.
+use Rattle.write.specs.declared.answer.WriteRefused.{WriteRefused}
+use Rattle.write.specs.declared.answer.Size.{Size}
+use Rattle.write.specs.declared.answer.Past.{Past}
+use Rattle.write.specs.declared.answer.ListRefused.{ListRefused}
+use Rattle.std.specs.Prelude.{Err, Ok, Result}
 use mathlib.Core.Path.{◌≡◌, refl, sym, ap, ◌∙◌, subst}
 use mathlib.Core.Bool.{true}
 use mathlib.Core.List.{List, ◌++◌, map}
@@ -27,10 +32,6 @@ use Rattle.track.specs.declared.list.EventList.{EventList}
 use Rattle.rows.specs.RowLists.{rows_judged}
 use Rattle.write.specs.Wrote.{wrote_event}
 use Rattle.write.specs.ListAnswers.{wrote_list}
-use Rattle.write.specs.declared.answer.WroteList.{WroteList}
-use Rattle.write.specs.declared.answer.WroteEvent.{WroteEvent}
-use Rattle.write.specs.declared.answer.WroteEvent.TheVariants as event
-use Rattle.write.specs.declared.answer.WroteList.TheVariants as list
 use Rattle.claims.specs.Point3.{Bytes, FitsAsBytes, ListWriteSays, ReadBack, ReadAgain, NeverBegins, Point3}
 use Rattle.claims.specs.Calls.{EventListRead, WriteEvent}
 use Rattle.claims.proofs.Calls as calls
@@ -43,13 +44,13 @@ use Rattle.claims.proofs.ReadAgain as read_again
 use Rattle.claims.proofs.ReadAgain.{left, own, read, Again}
 
 -- what the answer's meaning says of the buffer at the end
-pub event_end : (r : WroteEvent) (end : List ℕ) → (wrote_event r end).written.buffer ≡ end
-event_end (event.Next p) end = refl
-event_end (event.Refused n) end = refl
+pub event_end : (r : Result Past WriteRefused) (end : List ℕ) → (wrote_event r end).written.buffer ≡ end
+event_end (Ok p) end = refl
+event_end (Err n) end = refl
 
-pub list_end : (r : WroteList) (end : List ℕ) → (wrote_list r end).buffer ≡ end
-list_end (list.Length s) end = refl
-list_end (list.Refused n) end = refl
+pub list_end : (r : Result Size ListRefused) (end : List ℕ) → (wrote_list r end).buffer ≡ end
+list_end (Ok s) end = refl
+list_end (Err n) end = refl
 
 -- a list of records that was written, read again
 module _ (rules : Rules) (running : ℕ) (bytes : List ℕ) (records : List (Event Span)) (count : ℕ) (out : List ℕ) (n : ℕ)
@@ -131,7 +132,7 @@ again list running rules bytes out w told n e full =
     back (rules_of rules) (rules_of rules') running.status bytes (map record_of list.records) list.count out n at w raw (list_read_of r)
     told e full' (rw same at told') q z strict)
 
-never : (e : TrackEvent) (running : Running) (rules : base.Rules) (bytes out : List ℕ) (at : ℕ) (r : WroteEvent) (end : List ℕ)
+never : (e : TrackEvent) (running : Running) (rules : base.Rules) (bytes out : List ℕ) (at : ℕ) (r : Result Past WriteRefused) (end : List ℕ)
     → wrote_event r end ≡ write_event running.status (legal (rules_of rules) bytes (event_of e)) out at
     → (n : ℕ) → at ≡ 0 → (wrote_event r end).written.answer ≡ gives n → WriteEvent (NeverBegins e running rules bytes (take n end))
 never e running rules bytes out at r end told n z h =
@@ -140,7 +141,7 @@ never e running rules bytes out at r end told n z h =
     (wrote_event r end) (wrote_event r' end') (ap (λ (x : Running). x.status) same) alike told z h told' z' h' more
     (rw (event_end r end, event_end r' end') q))
 
-records_fit : (list : EventList) (running : Running) (rules : base.Rules) (bytes out : List ℕ) (r : WroteList) (end : List ℕ)
+records_fit : (list : EventList) (running : Running) (rules : base.Rules) (bytes out : List ℕ) (r : Result Size ListRefused) (end : List ℕ)
     → wrote_list r end ≡ write_list capacity running.status (records_judged (rules_of rules) bytes (map record_of list.records)) list.count out
     → (n : ℕ) → (wrote_list r end).answer ≡ wrote n → Bytes bytes → TypeBytes (map record_of list.records)
     → FitsAsBytes (rules_of rules) capacity running.status (records_judged (rules_of rules) bytes (map record_of list.records)) list.count out
@@ -149,7 +150,7 @@ records_fit list running rules bytes out r end told n h payload types =
     fits_as_bytes bytes payload (rules_of rules) capacity running.status (records_judged (rules_of rules) bytes records) list.count out (records_carry bytes payload (rules_of rules) records types)
     ((writes (rules_of rules) capacity running.status bytes records list.count out).accepts.0 (n, sym (ap (λ (w : ListWritten). w.answer) told) ∙ h))
 
-rows_fit : (rows : List ℕ) (count : ℕ) (running : Running) (rules : base.Rules) (bytes out : List ℕ) (r : WroteList) (end : List ℕ)
+rows_fit : (rows : List ℕ) (count : ℕ) (running : Running) (rules : base.Rules) (bytes out : List ℕ) (r : Result Size ListRefused) (end : List ℕ)
     → wrote_list r end ≡ write_list capacity running.status (rows_judged (rules_of rules) bytes count rows) count out
     → (n : ℕ) → (wrote_list r end).answer ≡ wrote n → Bytes bytes
     → FitsAsBytes (rules_of rules) capacity running.status (rows_judged (rules_of rules) bytes count rows) count out

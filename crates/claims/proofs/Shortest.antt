@@ -1,4 +1,9 @@
 -- Shortness holds of strict reading, and P7's bytes show that it does not of lenient reading.
+use Rattle.write.specs.declared.answer.WriteRefused.{WriteRefused}
+use Rattle.std.specs.Prelude.{Result}
+use Rattle.write.specs.declared.answer.Past.{Past}
+use Rattle.event.specs.declared.read.EventRefused.{EventRefused}
+use Rattle.event.specs.declared.read.EventAt as code
 use mathlib.Core.Path.{◌≡◌, refl, sym, ◌∙◌, subst}
 use mathlib.Core.Bool.{true, false}
 use mathlib.Core.List.{List, [], ◌∷◌}
@@ -19,9 +24,7 @@ use Rattle.base.specs.declared.Rules as base
 use Rattle.base.specs.declared.Running.{Running}
 use Rattle.event.specs.Event.{event_of, event_read}
 use Rattle.event.specs.declared.TrackEvent.{TrackEvent}
-use Rattle.event.specs.declared.read.ReadEvent.{ReadEvent}
 use Rattle.write.specs.Wrote.{wrote_event}
-use Rattle.write.specs.declared.answer.WroteEvent.{WroteEvent}
 use Rattle.claims.specs.Shortest.{WrittenFor, Shortest, NotLenient}
 use Rattle.claims.proofs.Calls as calls
 use Rattle.claims.proofs.EventWrites.{event_wrote}
@@ -31,7 +34,7 @@ use Rattle.claims.proofs.Refusals.{legal_by}
 written : (running : ℕ) (raw : List ℕ) (a : EventAt) (Reaches : ℕ → ℕ → Type 0) → ((from : ℕ) → Reaches from (from + length (encode_event running (map_event (bytes_of raw) a.event))))
     → WrittenFor running raw a Reaches
 written running raw a Reaches law = calls.write_event_lem _ said where
-  said : (event : TrackEvent) (running' : Running) (rules : base.Rules) (bytes out : List ℕ) (at : ℕ) (r : WroteEvent) (end : List ℕ)
+  said : (event : TrackEvent) (running' : Running) (rules : base.Rules) (bytes out : List ℕ) (at : ℕ) (r : Result Past WriteRefused) (end : List ℕ)
       → wrote_event r end ≡ write_event running'.status (legal (rules_of rules) bytes (event_of event)) out at
       → Same bytes (event_of event) raw a.event → running'.status ≡ running
       → (n : ℕ) → (wrote_event r end).written.answer ≡ gives n → Reaches at n
@@ -50,7 +53,7 @@ used rules running raw at a strict e =
 pub shortest : Shortest
 shortest =
     calls.read_event_lem _ said where
-      said : (raw : List ℕ) (at : ℕ) (running : Running) (rules : base.Rules) (r : ReadEvent) → event_read r ≡ event_at (rules_of rules) running.status raw at
+      said : (raw : List ℕ) (at : ℕ) (running : Running) (rules : base.Rules) (r : Result code.EventAt EventRefused) → event_read r ≡ event_at (rules_of rules) running.status raw at
           → (a : EventAt) → rules.strict ≡ true → event_read r ≡ reads_at a → WrittenFor running.status raw a (λ from n. n ≤ from + a.used)
       said raw at running rules r told a strict e =
           let few = used (rules_of rules) running.status raw at a strict (sym told ∙ e) in
@@ -74,7 +77,7 @@ p7_length = refl
 pub not_lenient : NotLenient
 not_lenient =
     calls.read_event_lem _ said where
-      said : (raw : List ℕ) (at : ℕ) (running : Running) (rules : base.Rules) (r : ReadEvent) → event_read r ≡ event_at (rules_of rules) running.status raw at
+      said : (raw : List ℕ) (at : ℕ) (running : Running) (rules : base.Rules) (r : Result code.EventAt EventRefused) → event_read r ≡ event_at (rules_of rules) running.status raw at
           → raw ≡ p7 → at ≡ 0 → running.status ≡ 0 → rules.strict ≡ false
           → (a : EventAt) × (event_read r ≡ reads_at a) × (a.used ≡ 2) × WrittenFor 0 raw a (λ from n. n ≡ from + 3)
       said raw at running rules r told q z none lenient = (

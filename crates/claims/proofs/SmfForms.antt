@@ -1,4 +1,11 @@
 -- The clauses of SMF, proved: what is in its form is read as it stands, and every accepted write is in its form and in no longer one.
+use Rattle.write.specs.declared.answer.WriteRefused.{WriteRefused}
+use Rattle.std.specs.Prelude.{Result}
+use Rattle.base.specs.declared.Refusal.{Refusal}
+use Rattle.number.specs.declared.payload.Payload.{Payload}
+use Rattle.write.specs.declared.answer.Past.{Past}
+use Rattle.event.specs.declared.read.EventRefused.{EventRefused}
+use Rattle.event.specs.declared.read.EventAt.{EventAt}
 use mathlib.Core.Path.{◌≡◌, refl, sym, ap, ◌∙◌, subst}
 use mathlib.Core.Bool.{Bool, true, false, ◌&&◌}
 use mathlib.Core.List.{List, [], ◌∷◌, ◌++◌, append_assoc}
@@ -38,18 +45,14 @@ use Rattle.base.specs.declared.Running.{Running}
 use Rattle.base.specs.declared.Range.{Range}
 use Rattle.number.specs.Varlen.{written_to, write_left}
 use Rattle.number.specs.Payload.{slice_read}
-use Rattle.number.specs.declared.payload.ReadSlice.{ReadSlice}
 use Rattle.number.specs.declared.u28.{u28}
-use Rattle.number.specs.declared.varlen.WroteNumber.{WroteNumber}
 use Rattle.header.specs.Format.{format_of}
 use Rattle.header.specs.Timing.{timing_of}
 use Rattle.header.specs.declared.format.Format.{Format}
 use Rattle.header.specs.declared.format.Format.TheVariants as format
 use Rattle.event.specs.Event.{event_of, event_read}
-use Rattle.event.specs.declared.read.ReadEvent.{ReadEvent}
 use Rattle.event.specs.declared.TrackEvent.{TrackEvent}
 use Rattle.write.specs.Wrote.{wrote_event}
-use Rattle.write.specs.declared.answer.WroteEvent.{WroteEvent}
 use Rattle.claims.specs.SmfForms as form
 use Rattle.claims.specs.SmfForms.{NumberForm, PayloadForm, ChannelForm, between, RateCode, KeyByte, ModeByte, Unnamed, MetaForm, BodyForm, EventForm, payload_padding, event_padding, FormatForm, TimingForm, Fewest, SmfForms}
 use Rattle.claims.proofs.Calls as calls
@@ -345,20 +348,20 @@ module _ (rules : Rules) (running : ℕ) (bytes : List ℕ) (event : Event Span)
 
 -- What the promises permit
 
-number_said : (self : u28) (out : List ℕ) (at : ℕ) (r : WroteNumber) (end : List ℕ) → write_left r end ≡ write (number_bytes self.0) out at
+number_said : (self : u28) (out : List ℕ) (at : ℕ) (r : Result ℕ Refusal) (end : List ℕ) → write_left r end ≡ write (number_bytes self.0) out at
     → (n : ℕ) → written_to r ≡ gives n → Fewest (NumberForm self.0) (between at n end)
 number_said self out at r end told n e =
     let w = put_is (number_bytes self.0) out at n (write_left r end) told e in
     rw w.there (number_own self.0 w.bytes w.has)
 
-payload_said : (bytes : List ℕ) (slice : Range) (out : List ℕ) (at : ℕ) (r : WroteNumber) (end : List ℕ)
+payload_said : (bytes : List ℕ) (slice : Range) (out : List ℕ) (at : ℕ) (r : Result ℕ Refusal) (end : List ℕ)
     → write_left r end ≡ write (payload_bytes bytes slice.start slice.length) out at
     → (n : ℕ) → written_to r ≡ gives n → Fewest (PayloadForm (take slice.length (drop slice.start bytes))) (between at n end)
 payload_said bytes slice out at r end told n e =
     let w = put_is (payload_bytes bytes slice.start slice.length) out at n (write_left r end) told e in
     rw w.there (payload_own bytes slice.start slice.length w.bytes w.has)
 
-event_said : (event : TrackEvent) (running : Running) (rules : base.Rules) (bytes out : List ℕ) (at : ℕ) (r : WroteEvent) (end : List ℕ)
+event_said : (event : TrackEvent) (running : Running) (rules : base.Rules) (bytes out : List ℕ) (at : ℕ) (r : Result Past WriteRefused) (end : List ℕ)
     → wrote_event r end ≡ write_event running.status (legal (rules_of rules) bytes (event_of event)) out at
     → (n : ℕ) → (wrote_event r end).written.answer ≡ gives n
     → (e : Event (List ℕ)) × (legal (rules_of rules) bytes (event_of event) ≡ gives e)
@@ -372,12 +375,12 @@ event_said event running rules bytes out at r end told n e =
     let a : Own (rules_of rules) running.status bytes (event_of event) out at w n = subst (Owns (rules_of rules) running.status bytes (event_of event) out at w) e o in
     (a.0, a.1, subst (λ (s : List ℕ). Fewest (EventForm running.status a.0 w.running) (between at n s)) (event_end r end) a.2)
 
-payload_read_said : (raw : List ℕ) (at : ℕ) (rules : base.Rules) (r : ReadSlice) → slice_read r ≡ payload_at (rules_of rules) raw at
+payload_read_said : (raw : List ℕ) (at : ℕ) (rules : base.Rules) (r : Result Payload Refusal) → slice_read r ≡ payload_at (rules_of rules) raw at
     → (p s rest : List ℕ) (f : PayloadForm p s) → drop at raw ≡ s ++ rest
     → slice_read r ≡ gives (record { span = record { start = at + length s - length p; length = length p }; padding = payload_padding f })
 payload_read_said raw at rules r told p s rest f q = told ∙ payload_at_lem (rules_of rules) raw at p s rest f q
 
-event_read_said : (raw : List ℕ) (at : ℕ) (running : Running) (rules : base.Rules) (r : ReadEvent) → event_read r ≡ event_at (rules_of rules) running.status raw at
+event_read_said : (raw : List ℕ) (at : ℕ) (running : Running) (rules : base.Rules) (r : Result EventAt EventRefused) → event_read r ≡ event_at (rules_of rules) running.status raw at
     → (e : Event (List ℕ)) (after : ℕ) (s rest : List ℕ) → is_running running.status ≡ true → (f : EventForm running.status e after s) → drop at raw ≡ s ++ rest
     → event_read r ≡ reads_at (record { event = event e.delta (map_kind (span_before (at + length s)) e.kind); used = length s; running = after; padding = event_padding f })
 event_read_said raw at running rules r told e after s rest is f q = told ∙ reads.event_at_lem (rules_of rules) running.status e after raw at s rest is f q

@@ -26,7 +26,7 @@ use Rattle.player.specs.Table.{channels, keys, Table, entry, numbers_from, fresh
 use Rattle.player.specs.Notes.{table_after}
 use Rattle.player.specs.Widths.{all_within, accepted}
 use Rattle.player.specs.Sounding.{counts, sounding_of, sounding_from, note_off_at, silence_from, silence}
-use Rattle.player.specs.Answers.{with_number, table_beside, list_beside}
+use Rattle.player.specs.Answers.{with_number, table_beside, list_beside, table_said, list_said}
 use Rattle.player.specs.Entries.{table_in, cells_left, silence_left}
 use Rattle.player.proofs.Tables.{Shaped, entry_of}
 use Rattle.player.proofs.Joined as player
@@ -38,6 +38,8 @@ use Rattle.player.proofs.Steps.{all_joined}
 use Rattle.player.proofs.Sums.{none_left, in_turn, counts_sum}
 use Rattle.claims.specs.Calls.{first, second, third, fourth, fifth}
 use Rattle.claims.specs.Sounding.{events_in, Joins, Legal, off, Silenced, Names, next_channel, next_key, InTurn, over, none, more, ListGiven, RowsGiven, Sounding}
+use Rattle.claims.specs.Handed.{list_handed}
+use Rattle.claims.proofs.Handed.{handed_list}
 use Rattle.claims.proofs.Owned.{full_table}
 use Rattle.claims.proofs.Player.{accepted_by, silence_by, given_beside, refused_beside, never_nought, accepts, accepts_only, accepts_few, accepts_within, rows_accepts_few, rows_accepts_within, asks, asks_only}
 use Rattle.claims.proofs.LastNotes.{leaves_last}
@@ -236,8 +238,9 @@ list_given_lem table table' channel channel' key key' list number es told same =
 given_list : (table : Table) (channel key : ℕ) (es : List (Event Span)) → ListGiven table channel key es → es ≡ silence_from capacity table (key_place channel key)
 given_list table channel key es g =
     let a = g.1.0 in
+    let r = g.1.1.0 in
     let call = g.1.1.1 in
-    list_given_lem table (first a) channel (second a).0 key (third a).0 g.1.1.0 (fourth call.0).now es call.1.0 call.1.1
+    list_given_lem table (first a) channel (second a).0 key (third a).0 (list_handed r) (list_said r).number es (handed_list r ∙ call.1.0) call.1.1
 
 rows_given : (table table' : List ℕ) (channel channel' key key' : ℕ) (cells : List ℕ) (cells' : List ℕ) (count' r : ℕ) (es : List (Event Span))
     → cells_left cells' count' r ≡ silence_left (silence capacity (table_in table') channel' key') cells
@@ -262,15 +265,15 @@ sounding =
     record {
       accepts = λ κs a r e told.
           let list = second a in
-          let took-all = took (first a) list r (third e).now told in
-          let only = took_only (first a) list r (third e).now told in
+          let took-all = took (first a) list (table_said r).value (table_said r).number told in
+          let only = took_only (first a) list (table_said r).value (table_said r).number told in
           ((λ z. ((only z).0, (only z).1)), (λ h. (took-all h.0 h.1).0));
       many = λ κs a r e told h.
           let list = second a in
-          refused_by (first a) list r (third e).now told 21 (accepts_few capacity (map record_of list.records) list.count h);
+          refused_by (first a) list (table_said r).value (table_said r).number told 21 (accepts_few capacity (map record_of list.records) list.count h);
       wide = λ κs a r e told h w.
           let list = second a in
-          refused_by (first a) list r (third e).now told 18 (accepts_within capacity (map record_of list.records) list.count h w);
+          refused_by (first a) list (table_said r).value (table_said r).number told 18 (accepts_within capacity (map record_of list.records) list.count h w);
       entry_many = λ κs a r e told h.
           rows_refused (third a).now (first a).now (second a) (third e).now r told 21 (rows_accepts_few capacity (first a).now (second a) h);
       entry_wide = λ κs a r e told h w.
@@ -281,38 +284,38 @@ sounding =
       entry_unasked = λ κs a r e told. handed_none (table_in (first a).now) (second a) (third a) (fourth a).now (fourth e).now (fifth e).now r told;
       leaves = λ κs a r e told z.
           let list = second a in
-          rw (took_only (first a) list r (third e).now told z).2 (leaves_last (first a) (events_in list));
+          rw (took_only (first a) list (table_said r).value (table_said r).number told z).2 (leaves_last (first a) (events_in list));
       entry_leaves = λ κs a r e told z. rows_leave (third a).now (first a).now (second a) (third e).now r told z;
       joined = player.joined;
       after_joined = λ κs a r e told z κs' a' r' e' told' same z' κs'' a'' r'' e'' told'' same' join.
-          after_twice (first a) (second a) r (third e).now told z (second a') r' (third e').now (rw same at told') z' (second a'') r'' (third e'').now (rw same' at told'') join;
+          after_twice (first a) (second a) (table_said r).value (table_said r).number told z (second a') (table_said r').value (table_said r').number (rw same at told') z' (second a'') (table_said r'').value (table_said r'').number (rw same' at told'') join;
       entry_joined = λ κs a r e told z κs' a' r' e' told' same z' κs'' a'' r'' e'' told'' same' join.
           rows_twice (third a).now (first a).now (second a) (third e).now r told z (first a').now (second a') (third e').now r' (rw same at told') z'
           (first a'').now (second a'') (third e'').now r'' (rw same' at told'') join;
       takes_legal = λ κs a r e told rules bytes legal.
           let list = second a in
-          (took (first a) list r (third e).now told legal.0 (all_legal_within rules bytes list.count (map record_of list.records) (listed bytes (map record_of list.records) list.count) legal.1)).0;
+          (took (first a) list (table_said r).value (table_said r).number told legal.0 (all_legal_within rules bytes list.count (map record_of list.records) (listed bytes (map record_of list.records) list.count) legal.1)).0;
       takes_read = λ κs a r e told κs' a' r' e' told' same.
-          read_took (rules_of (fourth a)) (third a).status (first a).now (second a) r told (first a') r' (third e').now (rw same at told');
+          read_took (rules_of (fourth a)) (third a).status (first a).now (second a) r told (first a') (table_said r').value (table_said r').number (rw same at told');
       asks = λ κs a r e told.
           let c = (second a).0 in
           let k = (third a).0 in (
-            (λ z. let g = gave_only (first a) c k r (fourth e).now told z in (g.0, g.1)),
-            (λ h. (given_beside (holding capacity []) (silence capacity (first a) c k) (holding capacity) told _ (asks capacity (first a) c k h.0 h.1)).0),
+            (λ z. let g = gave_only (first a) c k (list_handed r) (list_said r).number (handed_list r ∙ told) z in (g.0, g.1)),
+            (λ h. (given_beside (holding capacity []) (silence capacity (first a) c k) (holding capacity) (handed_list r ∙ told) _ (asks capacity (first a) c k h.0 h.1)).0),
           );
-      names = λ κs a r e told z. gave_names (first a) (second a).0 (third a).0 r (fourth e).now told z;
+      names = λ κs a r e told z. gave_names (first a) (second a).0 (third a).0 (list_handed r) (list_said r).number (handed_list r ∙ told) z;
       entry_names = λ κs a r e told z.
           let h = handed (table_in (first a).now) (second a) (third a) (fourth a).now (fourth e).now (fifth e).now r told z in
           handed_names (table_in (first a).now) (second a) (third a) (fourth e).now (fifth e).now h;
-      silence_legal = λ κs a r e told. gave_legal (first a) (second a).0 (third a).0 r (fourth e).now told;
+      silence_legal = λ κs a r e told. gave_legal (first a) (second a).0 (third a).0 (list_handed r) (list_said r).number (handed_list r ∙ told);
       silences = λ κs a r e told κs' a' r' e' told' same same'.
-          gave_silences (first a) (second a).0 (third a).0 r (fourth e).now told r' (third e').now (rw (same, same') at told');
+          gave_silences (first a) (second a).0 (third a).0 (list_handed r) (list_said r).number (handed_list r ∙ told) (table_said r').value (table_said r').number (rw (same, same') at told');
       entry_silences = λ κs a r e told z κs' a' r' e' told' same same' same''.
           let h = handed (table_in (first a).now) (second a) (third a) (fourth a).now (fourth e).now (fifth e).now r told z in
           rw (same, same')
           (handed_silences (first a).now (second a) (third a) (fourth e).now (fifth e).now h (third e').now r' (rw (same, same', same'') at told'));
       all_off = λ κs a r e told c k κs' a' r' e' told' good same few κs'' a'' r'' e'' told'' same' same'' κs''' a''' r''' e''' told'''.
-          gave_fresh (first a) (second a).0 (third a).0 r (fourth e).now told r'' (third e'').now (rw (same', same'') at told'')
+          gave_fresh (first a) (second a).0 (third a).0 (list_handed r) (list_said r).number (handed_list r ∙ told) (table_said r'').value (table_said r'').number (rw (same', same'') at told'')
           (rw same at (full_table κs' a' good)) c k (rw (← same, ← told') few)
           ∙ sym told''';
       entry_all_off = λ κs a r e told c k z κs' a' r' e' told' same few κs'' a'' r'' e'' told'' same' same'' same'''.

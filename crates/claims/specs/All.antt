@@ -15,6 +15,7 @@ use Rattle.claims.specs.Padding.{Padding, EntryPadding}
 use Rattle.claims.specs.Bank.{Banks}
 use Rattle.claims.specs.SmfForms.{SmfForms}
 use Rattle.claims.specs.Literals.{Literals}
+use Rattle.claims.specs.OfTypes.{OfTypes}
 
 pub record All : Type 2 where
   -- document 01's worked bytes, P1 to P12
@@ -27,6 +28,8 @@ pub record All : Type 2 where
   pub entries : Entries
   -- every input gets an answer; answers and refusals, of the exported entries too, and of the one that is lent the running status
   pub every_input : EveryInput
+  -- the same of the two functions that are written for any type
+  pub of_types : OfTypes
   pub point_1 : Point1
   pub entry_point_1 : EntryPoint1
   pub lent_running : LentRunning

@@ -1,7 +1,7 @@
 -- Document 02, Q-3: a bank of programs. What is written reads back as the tracks that it was written of, byte for byte; what reads as a bank is what would
 -- be written for its tracks, one form alone; the writer accepts exactly when the count, the ranges and the size allow; and a track is listed as its bytes
 -- by themselves are.
-use Rattle.std.specs.Prelude.{◌≡◌, true, false, ◌↔◌, ◌⊎◌, ℕ, ◌≤◌, ◌<◌, length, take, drop, get_or, replicate}
+use Rattle.std.specs.Prelude.{◌≡◌, true, false, ◌↔◌, ◌⊎◌, ℕ, ◌≤◌, ◌<◌, length, take, drop, get_or, replicate, Err, Ok}
 use mathlib.Core.List.{List, [], ◌∷◌, ◌++◌, flatten}
 use Rattle.smf.specs.Answer.{gives, refuses}
 use Rattle.smf.specs.Place.{Span, bytes_of}
@@ -13,14 +13,12 @@ use Rattle.loader_track.proofs as loader_track
 use Rattle.bank.specs.Bank.{most_tracks, most_bytes, four_bytes, behind_entries, bank_length, encode_bank, IsBank}
 use Rattle.bank.specs.Read.{count_of, read_bank, track_at}
 use Rattle.bank.specs.Write.{all_inside, tracks_of, write_bank}
-use Rattle.bank.specs.Answers.{spans_of, verdict_of, bank_track, bank_wrote}
+use Rattle.bank.specs.Answers.{spans_of, bank_track, bank_wrote}
 use Rattle.bank.specs.Entries.{range_in, ranges_in}
 use Rattle.bank.specs.declared.Bank.{Bank}
-use Rattle.bank.specs.declared.Verdict.TheVariants as verdict
-use Rattle.bank.specs.declared.read.BankTrack.TheVariants as track
-use Rattle.bank.specs.declared.writing.WroteBank.TheVariants as wrote
 use Rattle.bank.proofs as bank
 use Rattle.claims.specs.Calls.{Always, EventListRead, BankRead, BankTrack, ListTrack, WriteBank, WriteOwnedBank, ◌&◌}
+use Rattle.claims.specs.Handed.{verdict_of}
 use Rattle.claims.specs.EntryCalls.{list_read_entry, bank_read_entry, bank_track_entry, bank_list_entry, bank_write_entry}
 use Rattle.claims.specs.Point3.{Bytes}
 
@@ -84,7 +82,7 @@ pub record Forms : Type 0 where
 -- of the functions
 pub record Calls : Type 0 where
   -- `write_bank` accepts exactly when it is allowed; else it refuses by 25, then 19, then 20
-  pub accepts : WriteBank (λ bytes ranges count out r end. ((total : ℕ) × (r ≡ wrote.Total total)) ↔ Allowed most_tracks bytes (spans_of ranges) count (length out))
+  pub accepts : WriteBank (λ bytes ranges count out r end. ((total : ℕ) × (r ≡ Ok total)) ↔ Allowed most_tracks bytes (spans_of ranges) count (length out))
   pub many : WriteBank (λ bytes ranges count out r end. most_tracks < count → bank_wrote r ≡ refuses 25)
   pub outside : WriteBank (λ bytes ranges count out r end.
       count ≤ most_tracks → all_inside bytes (take count (spans_of ranges)) ≡ false → bank_wrote r ≡ refuses 19)
@@ -92,39 +90,39 @@ pub record Calls : Type 0 where
       → (most_bytes < bank_length (tracks_of bytes (take count (spans_of ranges)))) ⊎ (length out < bank_length (tracks_of bytes (take count (spans_of ranges))))
       → bank_wrote r ≡ refuses 20)
   -- what it leaves where it accepts, and that this reads back as those tracks
-  pub leaves : WriteBank (λ bytes ranges count out r end. (total : ℕ) → r ≡ wrote.Total total
+  pub leaves : WriteBank (λ bytes ranges count out r end. (total : ℕ) → r ≡ Ok total
       → Leaves most_tracks (tracks_of bytes (take count (spans_of ranges))) out total end)
-  pub reads_back : WriteBank (λ bytes ranges count out r end. (total : ℕ) → r ≡ wrote.Total total → BankRead (λ block r'. block ≡ take total end
-      → (r'.verdict ≡ verdict.Accepted) × (tracks_in block r'.bank ≡ tracks_of bytes (take count (spans_of ranges)))))
+  pub reads_back : WriteBank (λ bytes ranges count out r end. (total : ℕ) → r ≡ Ok total → BankRead (λ block r'. block ≡ take total end
+      → (r'.verdict ≡ Ok tt) × (tracks_in block r'.bank ≡ tracks_of bytes (take count (spans_of ranges)))))
   -- as many as were asked for
-  pub counts_back : WriteOwnedBank (λ bytes ranges count out r end. (total : ℕ) → r ≡ wrote.Total total → BankRead (λ block r'. block ≡ take total end
+  pub counts_back : WriteOwnedBank (λ bytes ranges count out r end. (total : ℕ) → r ≡ Ok total → BankRead (λ block r'. block ≡ take total end
       → r'.bank.count ≡ count))
   -- `read_bank` accepts every bank, and gives its tracks; what is no bank it refuses
   pub reads : BankRead (λ block r. (tracks : List (List ℕ)) → IsBank most_tracks block tracks
-      → (r.verdict ≡ verdict.Accepted) × (tracks_in block r.bank ≡ tracks))
+      → (r.verdict ≡ Ok tt) × (tracks_in block r.bank ≡ tracks))
   pub unread : BankRead (λ block r. Unread most_tracks block (λ n. verdict_of r.verdict ≡ refuses n))
   -- bytes that `read_bank` accepts are the bank of the tracks that it gives, no other bytes read as those, and `write_bank` of its ranges gives them again
-  pub one_form : BankRead (λ block r. Bytes block → r.verdict ≡ verdict.Accepted → IsBank most_tracks block (tracks_in block r.bank))
-  pub alone : BankRead (λ block r. BankRead (λ other r'. Bytes block → Bytes other → r.verdict ≡ verdict.Accepted → r'.verdict ≡ verdict.Accepted
+  pub one_form : BankRead (λ block r. Bytes block → r.verdict ≡ Ok tt → IsBank most_tracks block (tracks_in block r.bank))
+  pub alone : BankRead (λ block r. BankRead (λ other r'. Bytes block → Bytes other → r.verdict ≡ Ok tt → r'.verdict ≡ Ok tt
       → tracks_in block r.bank ≡ tracks_in other r'.bank → block ≡ other))
-  pub writes_back : BankRead (λ block r. Bytes block → r.verdict ≡ verdict.Accepted → WriteBank (λ bytes ranges count out r' end.
+  pub writes_back : BankRead (λ block r. Bytes block → r.verdict ≡ Ok tt → WriteBank (λ bytes ranges count out r' end.
       bytes ≡ block → ranges ≡ r.bank.tracks → count ≡ r.bank.count → length block ≤ length out
-      → (r' ≡ wrote.Total (length block)) × (take (length block) end ≡ block)))
+      → (r' ≡ Ok (length block)) × (take (length block) end ≡ block)))
   -- `bank_track` gives the range of an index of a bank that `read_bank` accepts, and refuses an index that is none by 34; else it refuses as `read_bank` does
-  pub there : BankRead (λ block r. r.verdict ≡ verdict.Accepted → BankTrack (λ block' index asked. block' ≡ block
+  pub there : BankRead (λ block r. r.verdict ≡ Ok tt → BankTrack (λ block' index asked. block' ≡ block
       → index < r.bank.count → bank_track asked ≡ gives (get_or (spans_of r.bank.tracks) index no_span)))
-  pub none : BankRead (λ block r. r.verdict ≡ verdict.Accepted → BankTrack (λ block' index asked. block' ≡ block
+  pub none : BankRead (λ block r. r.verdict ≡ Ok tt → BankTrack (λ block' index asked. block' ≡ block
       → r.bank.count ≤ index → bank_track asked ≡ refuses 34))
-  pub no_bank : BankRead (λ block r. (n : Refusal) → r.verdict ≡ verdict.Refused n → BankTrack (λ block' index asked. block' ≡ block
-      → asked ≡ track.Refused n))
+  pub no_bank : BankRead (λ block r. (n : Refusal) → r.verdict ≡ Err n → BankTrack (λ block' index asked. block' ≡ block
+      → asked ≡ Err n))
   -- `list_track` is what `EventList::read` gives on the bytes of that range by themselves, from place 0 and no running status, by the same rules; where
   -- there is no such track it refuses as `bank_track` does
-  pub lists : BankTrack (λ block index asked. (range : Range) → asked ≡ track.Track range → ListTrack (λ block' index' rules r.
+  pub lists : BankTrack (λ block index asked. (range : Range) → asked ≡ Ok range → ListTrack (λ block' index' rules r.
       block' ≡ block → index' ≡ index → EventListRead (λ raw at running rules' r'.
       raw ≡ bytes_of block (span_of range) → at ≡ 0 → running.status ≡ 0 → rules' ≡ rules
-      → (r.verdict ≡ verdict.Accepted) × (r.read ≡ r'))))
-  pub no_track : BankTrack (λ block index asked. (n : Refusal) → asked ≡ track.Refused n → ListTrack (λ block' index' rules r.
-      block' ≡ block → index' ≡ index → r.verdict ≡ verdict.Refused n))
+      → (r.verdict ≡ Ok tt) × (r.read ≡ r'))))
+  pub no_track : BankTrack (λ block index asked. (n : Refusal) → asked ≡ Err n → ListTrack (λ block' index' rules r.
+      block' ≡ block → index' ≡ index → r.verdict ≡ Err n))
 
 -- the same of the entries
 pub record Entries : Type 0 where

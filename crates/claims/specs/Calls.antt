@@ -2,7 +2,19 @@
 -- is what its `ensures` tell of the arguments, of the answer and of the arguments at the end, `Reads.Asked` what its `requires` ask.
 -- A claim speaks of a call by the names of its parameters: the order in which they stand is written once for each function, here and, for the
 -- exported entries, in `EntryCalls.antt`.
-use Rattle.std.specs.Prelude.{◌≡◌, List, ℕ}
+use Rattle.write.specs.declared.answer.WriteRefused.{WriteRefused}
+use Rattle.write.specs.declared.answer.Size.{Size}
+use Rattle.rows.specs.declared.lists.RowsRead.{RowsRead}
+use Rattle.rows.specs.declared.one.RowRead.{RowRead}
+use Rattle.base.specs.declared.Refusal.{Refusal}
+use Rattle.number.specs.declared.payload.Payload.{Payload}
+use Rattle.write.specs.declared.answer.Past.{Past}
+use Rattle.number.specs.declared.varlen.NumberAt.{NumberAt}
+use Rattle.meta.specs.declared.MetaAt.{MetaAt}
+use Rattle.write.specs.declared.answer.ListRefused.{ListRefused}
+use Rattle.event.specs.declared.read.EventRefused.{EventRefused}
+use Rattle.event.specs.declared.read.EventAt.{EventAt}
+use Rattle.std.specs.Prelude.{◌≡◌, List, ℕ, Result}
 use Rattle.std.specs.Borrow.{MutBor}
 use borrow.Fn.Kinds.{GoodsP}
 use Rattle.base.specs.declared.Rules.{Rules}
@@ -11,19 +23,9 @@ use Rattle.base.specs.declared.Range.{Range}
 use Rattle.base.specs.declared.u4.{u4}
 use Rattle.base.specs.declared.u7.{u7}
 use Rattle.number.specs.declared.u28.{u28}
-use Rattle.number.specs.declared.varlen.ReadNumber.{ReadNumber}
-use Rattle.number.specs.declared.payload.ReadSlice.{ReadSlice}
-use Rattle.number.specs.declared.varlen.WroteNumber.{WroteNumber}
-use Rattle.meta.specs.declared.ReadMeta.{ReadMeta}
 use Rattle.event.specs.declared.TrackEvent.{TrackEvent}
-use Rattle.event.specs.declared.read.ReadEvent.{ReadEvent}
 use Rattle.track.specs.declared.list.EventList.{EventList}
 use Rattle.track.specs.declared.read.ReadList.{ReadList}
-use Rattle.write.specs.declared.answer.WroteEvent.{WroteEvent}
-use Rattle.write.specs.declared.answer.ListLength as measured
-use Rattle.write.specs.declared.answer.WroteList.{WroteList}
-use Rattle.rows.specs.declared.lists.ReadRows.{ReadRows}
-use Rattle.rows.specs.declared.one.ReadRow.{ReadRow}
 use Rattle.number.proofs.u28.read_u7 as read_u7
 use Rattle.number.proofs.u28.write_varlen as write_varlen
 use Rattle.number.proofs.payload.read_varlen_slice as read_varlen_slice
@@ -45,14 +47,12 @@ use Rattle.player.proofs.table.fresh as fresh
 use Rattle.player.proofs.table.counts as counts
 use Rattle.player.proofs.notes.after as after
 use Rattle.player.proofs.silence.silence as silence
-use Rattle.bank.specs.declared.read.ReadBank.{ReadBank}
-use Rattle.bank.specs.declared.read.BankTrack as asked
-use Rattle.bank.specs.declared.list.ListedTrack.{ListedTrack}
-use Rattle.bank.specs.declared.writing.WroteBank.{WroteBank}
+use Rattle.player.specs.Answers.{table_said, list_said}
 use Rattle.bank.proofs.read.read_bank as read_bank_lem
 use Rattle.bank.proofs.read.bank_track as bank_track_lem
 use Rattle.bank.proofs.list.list_track as list_track
 use Rattle.bank.proofs.writing.write_bank as write_bank_lem
+use Rattle.claims.specs.Handed.{ReadBank, ListedTrack, list_handed, bank_handed, track_handed}
 
 -- a call of a function: its arguments, its answer, and the arguments at its end, at any lifetimes of what is lent
 module _ {L : Type 0} {A R E : L → Type 0} (Told : (κs : L) → A κs → R κs → E κs → Type 0) where
@@ -121,102 +121,102 @@ a & b = (a, b)
 
 module _ {ℓ} {X : Type ℓ} where
   -- `self.write_varlen(out, at)`, its answer, and what `out` holds at the end
-  abbrev pub write_varlen_call : (u28 → List ℕ → ℕ → WroteNumber → List ℕ → X) → Shows write_varlen.Reads.Learnt X
+  abbrev pub write_varlen_call : (u28 → List ℕ → ℕ → Result ℕ Refusal → List ℕ → X) → Shows write_varlen.Reads.Learnt X
   write_varlen_call show κs a r e = show (first a) (second a).now (third a) r (second e).now
 
   -- `write_varlen_slice(bytes, slice, out, at)`, its answer, and what `out` holds at the end
-  abbrev pub write_varlen_slice_call : (List ℕ → Range → List ℕ → ℕ → WroteNumber → List ℕ → X) → Shows write_varlen_slice.Reads.Learnt X
+  abbrev pub write_varlen_slice_call : (List ℕ → Range → List ℕ → ℕ → Result ℕ Refusal → List ℕ → X) → Shows write_varlen_slice.Reads.Learnt X
   write_varlen_slice_call show κs a r e = show (first a).now (second a) (third a).now (fourth a) r (third e).now
 
   -- `write_slice(bytes, slice, out, at)`, its answer, and what `out` holds at the end
-  abbrev pub write_slice_call : (List ℕ → Range → List ℕ → ℕ → WroteNumber → List ℕ → X) → Shows write_slice.Reads.Learnt X
+  abbrev pub write_slice_call : (List ℕ → Range → List ℕ → ℕ → Result ℕ Refusal → List ℕ → X) → Shows write_slice.Reads.Learnt X
   write_slice_call show κs a r e = show (first a).now (second a) (third a).now (fourth a) r (third e).now
 
   -- `read_row(raw, at, running, rules, row)`, its answer, and what `row` holds at the end
-  abbrev pub read_row_call : (List ℕ → ℕ → Running → Rules → List ℕ → ReadRow → List ℕ → X) → Shows read_row.Reads.Learnt X
+  abbrev pub read_row_call : (List ℕ → ℕ → Running → Rules → List ℕ → Result RowRead EventRefused → List ℕ → X) → Shows read_row.Reads.Learnt X
   read_row_call show κs a r e = show (first a).now (second a) (third a) (fourth a) (fifth a).now r (fifth e).now
 
   -- `read_rows(raw, at, running, rules, cells)`, its answer, and what `cells` holds at the end
-  abbrev pub read_rows_call : (List ℕ → ℕ → Running → Rules → List ℕ → ReadRows → List ℕ → X) → Shows read_rows.Reads.Learnt X
+  abbrev pub read_rows_call : (List ℕ → ℕ → Running → Rules → List ℕ → Result RowsRead Refusal → List ℕ → X) → Shows read_rows.Reads.Learnt X
   read_rows_call show κs a r e = show (first a).now (second a) (third a) (fourth a) (fifth a).now r (fifth e).now
 
   -- `write_event(event, running, rules, bytes, out, at)`, its answer, and what `out` holds at the end
-  abbrev pub write_event_call : (TrackEvent → Running → Rules → List ℕ → List ℕ → ℕ → WroteEvent → List ℕ → X) → Shows write_event_lem.Reads.Learnt X
+  abbrev pub write_event_call : (TrackEvent → Running → Rules → List ℕ → List ℕ → ℕ → Result Past WriteRefused → List ℕ → X) → Shows write_event_lem.Reads.Learnt X
   write_event_call show κs a r e = show (first a) (second a) (third a) (fourth a).now (fifth a).now (sixth a) r (fifth e).now
 
   -- `write_row(row, running, rules, bytes, out, at)`, its answer, and what `out` holds at the end
-  abbrev pub write_row_call : (List ℕ → Running → Rules → List ℕ → List ℕ → ℕ → WroteEvent → List ℕ → X) → Shows write_row.Reads.Learnt X
+  abbrev pub write_row_call : (List ℕ → Running → Rules → List ℕ → List ℕ → ℕ → Result Past WriteRefused → List ℕ → X) → Shows write_row.Reads.Learnt X
   write_row_call show κs a r e = show (first a) (second a) (third a) (fourth a).now (fifth a).now (sixth a) r (fifth e).now
 
   -- `write_list(list, running, rules, bytes, out)`, its answer, and what `out` holds at the end
-  abbrev pub write_list_call : (EventList → Running → Rules → List ℕ → List ℕ → WroteList → List ℕ → X) → Shows write_list_lem.Reads.Learnt X
+  abbrev pub write_list_call : (EventList → Running → Rules → List ℕ → List ℕ → Result Size ListRefused → List ℕ → X) → Shows write_list_lem.Reads.Learnt X
   write_list_call show κs a r e = show (first a) (second a) (third a) (fourth a).now (fifth a).now r (fifth e).now
 
   -- `write_rows(rows, count, running, rules, bytes, out)`, its answer, and what `out` holds at the end
-  abbrev pub write_rows_call : (List ℕ → ℕ → Running → Rules → List ℕ → List ℕ → WroteList → List ℕ → X) → Shows write_rows.Reads.Learnt X
+  abbrev pub write_rows_call : (List ℕ → ℕ → Running → Rules → List ℕ → List ℕ → Result Size ListRefused → List ℕ → X) → Shows write_rows.Reads.Learnt X
   write_rows_call show κs a r e = show (first a).now (second a) (third a) (fourth a) (fifth a).now (sixth a).now r (sixth e).now
 
-  -- `after(table, list, answer)`: its answer, a table, and the number that `answer` holds at the end
+  -- `after(table, list)`: its answer, a table, and the number beside it: 0, or that of the refusal which hands the table back
   abbrev pub after_call : (Table → EventList → Table → ℕ → X) → Shows after.Reads.Learnt X
-  after_call show κs a r e = show (first a) (second a) r (third e).now
+  after_call show κs a r e = show (first a) (second a) (table_said r).value (table_said r).number
 
-  -- `silence(table, channel, key, answer)`: its answer, a list, and the number that `answer` holds at the end
+  -- `silence(table, channel, key)`: its answer, a list, and the number beside it: 0, or that of the refusal
   abbrev pub silence_call : (Table → u4 → u7 → EventList → ℕ → X) → Shows silence.Reads.Learnt X
-  silence_call show κs a r e = show (first a) (second a) (third a) r (fourth e).now
+  silence_call show κs a r e = show (first a) (second a) (third a) (list_handed r) (list_said r).number
 
   -- `write_bank(bytes, ranges, count, out)`, its answer, and what `out` holds at the end
-  abbrev pub write_bank_call : (List ℕ → List Range → ℕ → List ℕ → WroteBank → List ℕ → X) → Shows write_bank_lem.Reads.Learnt X
+  abbrev pub write_bank_call : (List ℕ → List Range → ℕ → List ℕ → Result ℕ Refusal → List ℕ → X) → Shows write_bank_lem.Reads.Learnt X
   write_bank_call show κs a r e = show (first a).now (second a) (third a) (fourth a).now r (fourth e).now
 
 -- Claims of every call
 
 -- `u28::read_u7(raw, at, rules)`, and its answer
-abbrev pub ReadU7 : (List ℕ → ℕ → Rules → ReadNumber → Type 0) → Type 0
+abbrev pub ReadU7 : (List ℕ → ℕ → Rules → Result NumberAt Refusal → Type 0) → Type 0
 ReadU7 Claim = Always read_u7.Reads.Learnt (λ κs a r e. Claim (first a).now (second a) (third a) r)
 
-abbrev pub WriteVarlen : (u28 → List ℕ → ℕ → WroteNumber → List ℕ → Type 0) → Type 0
+abbrev pub WriteVarlen : (u28 → List ℕ → ℕ → Result ℕ Refusal → List ℕ → Type 0) → Type 0
 WriteVarlen Claim = Always write_varlen.Reads.Learnt (write_varlen_call Claim)
 
 -- `read_varlen_slice(raw, at, rules)`, and its answer
-abbrev pub ReadVarlenSlice : (List ℕ → ℕ → Rules → ReadSlice → Type 0) → Type 0
+abbrev pub ReadVarlenSlice : (List ℕ → ℕ → Rules → Result Payload Refusal → Type 0) → Type 0
 ReadVarlenSlice Claim = Always read_varlen_slice.Reads.Learnt (λ κs a r e. Claim (first a).now (second a) (third a) r)
 
-abbrev pub WriteVarlenSlice : (List ℕ → Range → List ℕ → ℕ → WroteNumber → List ℕ → Type 0) → Type 0
+abbrev pub WriteVarlenSlice : (List ℕ → Range → List ℕ → ℕ → Result ℕ Refusal → List ℕ → Type 0) → Type 0
 WriteVarlenSlice Claim = Always write_varlen_slice.Reads.Learnt (write_varlen_slice_call Claim)
 
-abbrev pub WriteSlice : (List ℕ → Range → List ℕ → ℕ → WroteNumber → List ℕ → Type 0) → Type 0
+abbrev pub WriteSlice : (List ℕ → Range → List ℕ → ℕ → Result ℕ Refusal → List ℕ → Type 0) → Type 0
 WriteSlice Claim = Always write_slice.Reads.Learnt (write_slice_call Claim)
 
 -- `MetaMessage::read(raw, at, rules)`, and its answer
-abbrev pub MetaMessageRead : (List ℕ → ℕ → Rules → ReadMeta → Type 0) → Type 0
+abbrev pub MetaMessageRead : (List ℕ → ℕ → Rules → Result MetaAt Refusal → Type 0) → Type 0
 MetaMessageRead Claim = Always read_meta_lem.Reads.Learnt (λ κs a r e. Claim (first a).now (second a) (third a) r)
 
 -- `TrackEvent::read(raw, at, running, rules)`, and its answer
-abbrev pub TrackEventRead : (List ℕ → ℕ → Running → Rules → ReadEvent → Type 0) → Type 0
+abbrev pub TrackEventRead : (List ℕ → ℕ → Running → Rules → Result EventAt EventRefused → Type 0) → Type 0
 TrackEventRead Claim = Always read_event_lem.Reads.Learnt (λ κs a r e. Claim (first a).now (second a) (third a) (fourth a) r)
 
 -- `EventList::read(raw, at, running, rules)`, and its answer
 abbrev pub EventListRead : (List ℕ → ℕ → Running → Rules → ReadList → Type 0) → Type 0
 EventListRead Claim = Always read_list_lem.Reads.Learnt (λ κs a r e. Claim (first a).now (second a) (third a) (fourth a) r)
 
-abbrev pub WriteEvent : (TrackEvent → Running → Rules → List ℕ → List ℕ → ℕ → WroteEvent → List ℕ → Type 0) → Type 0
+abbrev pub WriteEvent : (TrackEvent → Running → Rules → List ℕ → List ℕ → ℕ → Result Past WriteRefused → List ℕ → Type 0) → Type 0
 WriteEvent Claim = Always write_event_lem.Reads.Learnt (write_event_call Claim)
 
-abbrev pub WriteRow : (List ℕ → Running → Rules → List ℕ → List ℕ → ℕ → WroteEvent → List ℕ → Type 0) → Type 0
+abbrev pub WriteRow : (List ℕ → Running → Rules → List ℕ → List ℕ → ℕ → Result Past WriteRefused → List ℕ → Type 0) → Type 0
 WriteRow Claim = Always write_row.Reads.Learnt (write_row_call Claim)
 
 -- `list_length(list, running, rules, bytes)`, and its answer
-abbrev pub ListLength : (EventList → Running → Rules → List ℕ → measured.ListLength → Type 0) → Type 0
+abbrev pub ListLength : (EventList → Running → Rules → List ℕ → Result Size ListRefused → Type 0) → Type 0
 ListLength Claim = Always list_length.Reads.Learnt (λ κs a r e. Claim (first a) (second a) (third a) (fourth a).now r)
 
-abbrev pub WriteList : (EventList → Running → Rules → List ℕ → List ℕ → WroteList → List ℕ → Type 0) → Type 0
+abbrev pub WriteList : (EventList → Running → Rules → List ℕ → List ℕ → Result Size ListRefused → List ℕ → Type 0) → Type 0
 WriteList Claim = Always write_list_lem.Reads.Learnt (write_list_call Claim)
 
 -- `rows_length(rows, count, running, rules, bytes)`, and its answer
-abbrev pub RowsLength : (List ℕ → ℕ → Running → Rules → List ℕ → measured.ListLength → Type 0) → Type 0
+abbrev pub RowsLength : (List ℕ → ℕ → Running → Rules → List ℕ → Result Size ListRefused → Type 0) → Type 0
 RowsLength Claim = Always rows_length.Reads.Learnt (λ κs a r e. Claim (first a).now (second a) (third a) (fourth a) (fifth a).now r)
 
-abbrev pub WriteRows : (List ℕ → ℕ → Running → Rules → List ℕ → List ℕ → WroteList → List ℕ → Type 0) → Type 0
+abbrev pub WriteRows : (List ℕ → ℕ → Running → Rules → List ℕ → List ℕ → Result Size ListRefused → List ℕ → Type 0) → Type 0
 WriteRows Claim = Always write_rows.Reads.Learnt (write_rows_call Claim)
 
 -- `fresh()`: its answer
@@ -235,19 +235,19 @@ Silence Claim = Always silence.Reads.Learnt (silence_call Claim)
 
 -- `read_bank(block)`, and its answer
 abbrev pub BankRead : (List ℕ → ReadBank → Type 0) → Type 0
-BankRead Claim = Always read_bank_lem.Reads.Learnt (λ κs a r e. Claim (first a).now r)
+BankRead Claim = Always read_bank_lem.Reads.Learnt (λ κs a r e. Claim (first a).now (bank_handed r))
 
 -- `bank_track(block, index)`, and its answer
-abbrev pub BankTrack : (List ℕ → ℕ → asked.BankTrack → Type 0) → Type 0
+abbrev pub BankTrack : (List ℕ → ℕ → Result Range Refusal → Type 0) → Type 0
 BankTrack Claim = Always bank_track_lem.Reads.Learnt (λ κs a r e. Claim (first a).now (second a) r)
 
 -- `list_track(block, index, rules)`, and its answer
 abbrev pub ListTrack : (List ℕ → ℕ → Rules → ListedTrack → Type 0) → Type 0
-ListTrack Claim = Always list_track.Reads.Learnt (λ κs a r e. Claim (first a).now (second a) (third a) r)
+ListTrack Claim = Always list_track.Reads.Learnt (λ κs a r e. Claim (first a).now (second a) (third a) (track_handed r))
 
-abbrev pub WriteBank : (List ℕ → List Range → ℕ → List ℕ → WroteBank → List ℕ → Type 0) → Type 0
+abbrev pub WriteBank : (List ℕ → List Range → ℕ → List ℕ → Result ℕ Refusal → List ℕ → Type 0) → Type 0
 WriteBank Claim = Always write_bank_lem.Reads.Learnt (write_bank_call Claim)
 
 -- the same, of ranges that are a value of their type, as those of every call are: as many as a bank may have tracks
-abbrev pub WriteOwnedBank : (List ℕ → List Range → ℕ → List ℕ → WroteBank → List ℕ → Type 0) → Type 0
+abbrev pub WriteOwnedBank : (List ℕ → List Range → ℕ → List ℕ → Result ℕ Refusal → List ℕ → Type 0) → Type 0
 WriteOwnedBank Claim = Always write_bank_lem.Reads.Learnt (λ κs a r e. GoodsP κs write_bank_lem.Kinds.ps a → write_bank_call Claim κs a r e)

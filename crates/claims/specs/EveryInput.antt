@@ -1,6 +1,7 @@
 -- Point 1: every byte string, flag and record gets an answer. What a function asks of its caller, by its own contract, holds of any arguments; so the
 -- checker's proof that it ends and answers as it promises is a proof for every input. A line for each public function, by its path.
--- The line of `read_event` of `event`, to which the running status is lent as a struct, stands in `LentRunning.antt`.
+-- The line of `read_event` of `event`, to which the running status is lent as a struct, stands in `LentRunning.antt`; those of the two functions that are
+-- written for any type, in `OfTypes.antt`.
 use Rattle.base.proofs as base
 use Rattle.number.proofs as number
 use Rattle.header.proofs as header
@@ -22,39 +23,46 @@ Any {L} {A} Asked = (κs : L) (a : A κs) → Asked κs a
 
 -- `base`: restricted numbers, refusals, the running status
 pub record AnyBase : Type 0 where
-  pub u2_max_value : Any base.u2.max_value.Reads.Asked
-  pub u2_new : Any base.u2.new.Reads.Asked
-  pub u2_try_from : Any base.u2.try_from.Reads.Asked
-  pub u2_as_int : Any base.u2.as_int.Reads.Asked
-  pub u4_max_value : Any base.u4.max_value.Reads.Asked
-  pub u4_new : Any base.u4.new.Reads.Asked
-  pub u4_try_from : Any base.u4.try_from.Reads.Asked
-  pub u4_as_int : Any base.u4.as_int.Reads.Asked
-  pub u7_max_value : Any base.u7.max_value.Reads.Asked
-  pub u7_new : Any base.u7.new.Reads.Asked
-  pub u7_try_from : Any base.u7.try_from.Reads.Asked
-  pub u7_as_int : Any base.u7.as_int.Reads.Asked
-  pub u14_max_value : Any base.u14.max_value.Reads.Asked
-  pub u14_new : Any base.u14.new.Reads.Asked
-  pub u14_try_from : Any base.u14.try_from.Reads.Asked
-  pub u14_as_int : Any base.u14.as_int.Reads.Asked
-  pub u15_max_value : Any base.u15.max_value.Reads.Asked
-  pub u15_new : Any base.u15.new.Reads.Asked
-  pub u15_try_from : Any base.u15.try_from.Reads.Asked
-  pub u15_as_int : Any base.u15.as_int.Reads.Asked
-  pub u24_max_value : Any base.u24.max_value.Reads.Asked
-  pub u24_new : Any base.u24.new.Reads.Asked
-  pub u24_try_from : Any base.u24.try_from.Reads.Asked
-  pub u24_as_int : Any base.u24.as_int.Reads.Asked
-  pub refusal_number : Any base.Refusal.number.Reads.Asked
+  pub u2_max_value : Any base.int.U2Restricted.max_value.Reads.Asked
+  pub u2_new : Any base.int.U2Restricted.new.Reads.Asked
+  pub u2_try_from : Any base.int.U2TryFromU8.try_from.Reads.Asked
+  pub u2_as_int : Any base.int.U2Restricted.as_int.Reads.Asked
+  pub u2_low : Any base.int.U2Restricted.low.Reads.Asked
+  pub u4_max_value : Any base.int.U4Restricted.max_value.Reads.Asked
+  pub u4_new : Any base.int.U4Restricted.new.Reads.Asked
+  pub u4_try_from : Any base.int.U4TryFromU8.try_from.Reads.Asked
+  pub u4_as_int : Any base.int.U4Restricted.as_int.Reads.Asked
+  pub u4_low : Any base.int.U4Restricted.low.Reads.Asked
+  pub u7_max_value : Any base.int.U7Restricted.max_value.Reads.Asked
+  pub u7_new : Any base.int.U7Restricted.new.Reads.Asked
+  pub u7_try_from : Any base.int.U7TryFromU8.try_from.Reads.Asked
+  pub u7_as_int : Any base.int.U7Restricted.as_int.Reads.Asked
+  pub u7_low : Any base.int.U7Restricted.low.Reads.Asked
+  pub u14_max_value : Any base.int.U14Restricted.max_value.Reads.Asked
+  pub u14_new : Any base.int.U14Restricted.new.Reads.Asked
+  pub u14_try_from : Any base.int.U14TryFromU16.try_from.Reads.Asked
+  pub u14_as_int : Any base.int.U14Restricted.as_int.Reads.Asked
+  pub u14_low : Any base.int.U14Restricted.low.Reads.Asked
+  pub u15_max_value : Any base.int.U15Restricted.max_value.Reads.Asked
+  pub u15_new : Any base.int.U15Restricted.new.Reads.Asked
+  pub u15_try_from : Any base.int.U15TryFromU16.try_from.Reads.Asked
+  pub u15_as_int : Any base.int.U15Restricted.as_int.Reads.Asked
+  pub u15_low : Any base.int.U15Restricted.low.Reads.Asked
+  pub u24_max_value : Any base.int.U24Restricted.max_value.Reads.Asked
+  pub u24_new : Any base.int.U24Restricted.new.Reads.Asked
+  pub u24_try_from : Any base.int.U24TryFromU32.try_from.Reads.Asked
+  pub u24_as_int : Any base.int.U24Restricted.as_int.Reads.Asked
+  pub u24_low : Any base.int.U24Restricted.low.Reads.Asked
+  pub refusal_number : Any base.refusals.U8FromRefusal.from.Reads.Asked
   pub is_valid : Any base.Running.is_valid.Reads.Asked
 
 -- `number`: variable-length numbers and payloads
 pub record AnyNumber : Type 0 where
-  pub u28_max_value : Any number.u28.max_value.Reads.Asked
-  pub u28_new : Any number.u28.new.Reads.Asked
-  pub u28_try_from : Any number.u28.try_from.Reads.Asked
-  pub u28_as_int : Any number.u28.as_int.Reads.Asked
+  pub u28_max_value : Any number.varlen.U28Restricted.max_value.Reads.Asked
+  pub u28_new : Any number.varlen.U28Restricted.new.Reads.Asked
+  pub u28_try_from : Any number.varlen.U28TryFromU32.try_from.Reads.Asked
+  pub u28_as_int : Any number.varlen.U28Restricted.as_int.Reads.Asked
+  pub u28_low : Any number.varlen.U28Restricted.low.Reads.Asked
   pub read_u7 : Any number.u28.read_u7.Reads.Asked
   pub varlen_length : Any number.u28.varlen_length.Reads.Asked
   pub write_varlen : Any number.u28.write_varlen.Reads.Asked

@@ -12,39 +12,46 @@ use Rattle.write.proofs as write
 use Rattle.same.proofs as same
 use Rattle.player.proofs as player
 use Rattle.bank.proofs as bank
-use Rattle.claims.specs.Calls.{OneAnswer, OneOutcome, write_varlen_call, write_varlen_slice_call, write_slice_call, write_event_call, write_row_call, write_list_call, write_rows_call, after_call, silence_call, write_bank_call, ◌&◌}
+use Rattle.claims.specs.Calls.{OneAnswer, OneOutcome, write_varlen_call, write_varlen_slice_call, write_slice_call, write_event_call, write_row_call, write_list_call, write_rows_call, write_bank_call, ◌&◌}
 
 -- `base`, `number`: restricted numbers, refusals, the running status, variable-length numbers and payloads
 pub record Numbers : Type 0 where
-  pub u2_max_value : OneAnswer base.u2.max_value.Reads.Learnt
-  pub u2_new : OneAnswer base.u2.new.Reads.Learnt
-  pub u2_try_from : OneAnswer base.u2.try_from.Reads.Learnt
-  pub u2_as_int : OneAnswer base.u2.as_int.Reads.Learnt
-  pub u4_max_value : OneAnswer base.u4.max_value.Reads.Learnt
-  pub u4_new : OneAnswer base.u4.new.Reads.Learnt
-  pub u4_try_from : OneAnswer base.u4.try_from.Reads.Learnt
-  pub u4_as_int : OneAnswer base.u4.as_int.Reads.Learnt
-  pub u7_max_value : OneAnswer base.u7.max_value.Reads.Learnt
-  pub u7_new : OneAnswer base.u7.new.Reads.Learnt
-  pub u7_try_from : OneAnswer base.u7.try_from.Reads.Learnt
-  pub u7_as_int : OneAnswer base.u7.as_int.Reads.Learnt
-  pub u14_max_value : OneAnswer base.u14.max_value.Reads.Learnt
-  pub u14_new : OneAnswer base.u14.new.Reads.Learnt
-  pub u14_try_from : OneAnswer base.u14.try_from.Reads.Learnt
-  pub u14_as_int : OneAnswer base.u14.as_int.Reads.Learnt
-  pub u15_max_value : OneAnswer base.u15.max_value.Reads.Learnt
-  pub u15_new : OneAnswer base.u15.new.Reads.Learnt
-  pub u15_try_from : OneAnswer base.u15.try_from.Reads.Learnt
-  pub u15_as_int : OneAnswer base.u15.as_int.Reads.Learnt
-  pub u24_max_value : OneAnswer base.u24.max_value.Reads.Learnt
-  pub u24_new : OneAnswer base.u24.new.Reads.Learnt
-  pub u24_try_from : OneAnswer base.u24.try_from.Reads.Learnt
-  pub u24_as_int : OneAnswer base.u24.as_int.Reads.Learnt
-  pub u28_max_value : OneAnswer number.u28.max_value.Reads.Learnt
-  pub u28_new : OneAnswer number.u28.new.Reads.Learnt
-  pub u28_try_from : OneAnswer number.u28.try_from.Reads.Learnt
-  pub u28_as_int : OneAnswer number.u28.as_int.Reads.Learnt
-  pub refusal_number : OneAnswer base.Refusal.number.Reads.Learnt
+  pub u2_max_value : OneAnswer base.int.U2Restricted.max_value.Reads.Learnt
+  pub u2_new : OneAnswer base.int.U2Restricted.new.Reads.Learnt
+  pub u2_try_from : OneAnswer base.int.U2TryFromU8.try_from.Reads.Learnt
+  pub u2_as_int : OneAnswer base.int.U2Restricted.as_int.Reads.Learnt
+  pub u2_low : OneAnswer base.int.U2Restricted.low.Reads.Learnt
+  pub u4_max_value : OneAnswer base.int.U4Restricted.max_value.Reads.Learnt
+  pub u4_new : OneAnswer base.int.U4Restricted.new.Reads.Learnt
+  pub u4_try_from : OneAnswer base.int.U4TryFromU8.try_from.Reads.Learnt
+  pub u4_as_int : OneAnswer base.int.U4Restricted.as_int.Reads.Learnt
+  pub u4_low : OneAnswer base.int.U4Restricted.low.Reads.Learnt
+  pub u7_max_value : OneAnswer base.int.U7Restricted.max_value.Reads.Learnt
+  pub u7_new : OneAnswer base.int.U7Restricted.new.Reads.Learnt
+  pub u7_try_from : OneAnswer base.int.U7TryFromU8.try_from.Reads.Learnt
+  pub u7_as_int : OneAnswer base.int.U7Restricted.as_int.Reads.Learnt
+  pub u7_low : OneAnswer base.int.U7Restricted.low.Reads.Learnt
+  pub u14_max_value : OneAnswer base.int.U14Restricted.max_value.Reads.Learnt
+  pub u14_new : OneAnswer base.int.U14Restricted.new.Reads.Learnt
+  pub u14_try_from : OneAnswer base.int.U14TryFromU16.try_from.Reads.Learnt
+  pub u14_as_int : OneAnswer base.int.U14Restricted.as_int.Reads.Learnt
+  pub u14_low : OneAnswer base.int.U14Restricted.low.Reads.Learnt
+  pub u15_max_value : OneAnswer base.int.U15Restricted.max_value.Reads.Learnt
+  pub u15_new : OneAnswer base.int.U15Restricted.new.Reads.Learnt
+  pub u15_try_from : OneAnswer base.int.U15TryFromU16.try_from.Reads.Learnt
+  pub u15_as_int : OneAnswer base.int.U15Restricted.as_int.Reads.Learnt
+  pub u15_low : OneAnswer base.int.U15Restricted.low.Reads.Learnt
+  pub u24_max_value : OneAnswer base.int.U24Restricted.max_value.Reads.Learnt
+  pub u24_new : OneAnswer base.int.U24Restricted.new.Reads.Learnt
+  pub u24_try_from : OneAnswer base.int.U24TryFromU32.try_from.Reads.Learnt
+  pub u24_as_int : OneAnswer base.int.U24Restricted.as_int.Reads.Learnt
+  pub u24_low : OneAnswer base.int.U24Restricted.low.Reads.Learnt
+  pub u28_max_value : OneAnswer number.varlen.U28Restricted.max_value.Reads.Learnt
+  pub u28_new : OneAnswer number.varlen.U28Restricted.new.Reads.Learnt
+  pub u28_try_from : OneAnswer number.varlen.U28TryFromU32.try_from.Reads.Learnt
+  pub u28_as_int : OneAnswer number.varlen.U28Restricted.as_int.Reads.Learnt
+  pub u28_low : OneAnswer number.varlen.U28Restricted.low.Reads.Learnt
+  pub refusal_number : OneAnswer base.refusals.U8FromRefusal.from.Reads.Learnt
   pub is_valid : OneAnswer base.Running.is_valid.Reads.Learnt
   pub read_u7 : OneAnswer number.u28.read_u7.Reads.Learnt
   pub varlen_length : OneAnswer number.u28.varlen_length.Reads.Learnt
@@ -128,8 +135,8 @@ pub record Lists : Type 0 where
 pub record Notes : Type 0 where
   pub fresh : OneAnswer player.table.fresh.Reads.Learnt
   pub counts : OneAnswer player.table.counts.Reads.Learnt
-  pub after : OneOutcome player.notes.after.Reads.Learnt (after_call (λ table list r answer. r & answer))
-  pub silence : OneOutcome player.silence.silence.Reads.Learnt (silence_call (λ table channel key r answer. r & answer))
+  pub after : OneAnswer player.notes.after.Reads.Learnt
+  pub silence : OneAnswer player.silence.silence.Reads.Learnt
 
 -- `bank`: a bank of programs, read and written, and its tracks, asked for and listed
 pub record Programs : Type 0 where

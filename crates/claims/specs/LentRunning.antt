@@ -1,7 +1,9 @@
 -- `read_event` of `event`, to which the running status is lent as a struct. No reading of its contract by the checker is used here: the contract
 -- itself, a statement in the program logic, is held to a plain one. So the claims that every input gets an answer, and that any two answers and
 -- final running statuses are identical, speak of this function too.
-use Rattle.std.specs.Prelude.{◌≡◌, List, ℕ}
+use Rattle.event.specs.declared.read.EventRefused.{EventRefused}
+use Rattle.event.specs.declared.read.EventAt.{EventAt}
+use Rattle.std.specs.Prelude.{◌≡◌, List, ℕ, Result}
 use seplogic.Ra.Ura.{Ura}
 use base.Logic.{SProp, emp}
 use contract.Monad.{Fun, fact}
@@ -17,13 +19,12 @@ use Rattle.base.specs.declared.Rules.{Rules}
 use Rattle.base.specs.declared.Running.{Running}
 use Rattle.event.specs.Event.{event_read}
 use Rattle.event.specs.Lent.{Leaves, read_running}
-use Rattle.event.specs.declared.read.ReadEvent.{ReadEvent}
 use Rattle.event.specs.contracts.running.read_event as read_event_lem
 use Rattle.claims.specs.Calls.{first, second, third, fourth, ◌&◌}
 use Rattle.claims.specs.Stands.{EventOrLeft}
 
 -- `read_event(raw, at, running, rules)`: what is promised of its answer and of the running status at the end
-abbrev pub Promised : List ℕ → ℕ → Running → Rules → ReadEvent → Running → Type 0
+abbrev pub Promised : List ℕ → ℕ → Running → Rules → Result EventAt EventRefused → Running → Type 0
 Promised raw at running rules r after = Leaves (event_at (rules_of rules) running.status raw at) r after
 
 -- a claim of the function's clauses, in every model of the program logic, at any lifetimes, arguments, answer and arguments at the end
@@ -41,8 +42,8 @@ pub record LentRunning : Type 2 where
   pub promises : OfClauses (λ M 𝓤 κs a r e c. (g : c.ghost)
       → c.ensures g r e ≡ fact 𝓤 (Promised (first a).now (second a) (third a).now (fourth a) r (third e).now))
   -- any two answers that this permits, and what is lent at the end, are identical
-  pub one_outcome : (raw : List ℕ) (at : ℕ) (running : Running) (rules : Rules) (y z : ReadEvent) (d e : Running)
+  pub one_outcome : (raw : List ℕ) (at : ℕ) (running : Running) (rules : Rules) (y z : Result EventAt EventRefused) (d e : Running)
       → Promised raw at running rules y d → Promised raw at running rules z e → (y & d) ≡ (z & e)
   -- point 1: a refusal is one of 1 to 14, and leaves the running status that document 01 names
-  pub leaves : (raw : List ℕ) (at : ℕ) (running : Running) (rules : Rules) (r : ReadEvent) (after : Running) → Promised raw at running rules r after
+  pub leaves : (raw : List ℕ) (at : ℕ) (running : Running) (rules : Rules) (r : Result EventAt EventRefused) (after : Running) → Promised raw at running rules r after
       → EventOrLeft (rules_of rules) raw running.status at (event_read r) × (after.status ≡ read_running (event_read r))

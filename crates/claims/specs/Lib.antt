@@ -1,4 +1,5 @@
 -- What is claimed: the statements of documents 01 and 02, each as a type that proofs/ has an element of.
+pub mod Handed
 pub mod Calls
 pub mod EntryCalls
 pub mod Table
@@ -21,4 +22,5 @@ pub mod SmfForms
 pub mod Padding
 pub mod Bank
 pub mod Literals
+pub mod OfTypes
 pub mod All

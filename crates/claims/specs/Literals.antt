@@ -1,5 +1,7 @@
 -- The numbers, orders and forms that document 01 prints and no other claim names, each as a literal: of whatever a function's promise permits.
-use Rattle.std.specs.Prelude.{◌≡◌, true, false, List, [], ◌∷◌, ◌++◌, map, ℕ, ◌+◌, ◌-◌, ◌*◌, ◌%◌, ◌≤◌, ◌<◌, leb, pos, ◌-ℤ◌, length, take, drop, replicate}
+use Rattle.event.specs.declared.read.EventRefused.{EventRefused}
+use Rattle.event.specs.declared.read.EventAt.{EventAt}
+use Rattle.std.specs.Prelude.{◌≡◌, true, false, List, [], ◌∷◌, ◌++◌, map, ℕ, ◌+◌, ◌-◌, ◌*◌, ◌%◌, ◌≤◌, ◌<◌, leb, pos, ◌-ℤ◌, length, take, drop, replicate, Result}
 use Rattle.std.specs.Float.{binary32}
 use Rattle.std.specs.Float.Ieee.{to_bits}
 use Rattle.smf.specs.Answer.{pick, Answer, gives, refuses}
@@ -23,7 +25,6 @@ use Rattle.midi.specs.Bend.{bend_int}
 use Rattle.midi.proofs as midi
 use Rattle.event.specs.Event.{event_of, event_read}
 use Rattle.event.specs.Lent.{Leaves}
-use Rattle.event.specs.declared.read.ReadEvent.{ReadEvent}
 use Rattle.event.proofs as events
 use Rattle.track.specs.List.{record_of, held_of}
 use Rattle.track.specs.Read.{list_read_of}
@@ -51,27 +52,27 @@ up_to largest x = pick (leb x largest) (gives x) (refuses 18)
 
 -- document 01, module 1: the largest value of each restricted number, `new`, which keeps the low bits, and `try_from`
 pub record Widths : Type 0 where
-  pub u2_max_value : Answers base.u2.max_value.Reads.Learnt (λ κs z. z.0) (λ κs a. 3)
-  pub u2_new : Answers base.u2.new.Reads.Learnt (λ κs z. z.0) (λ κs a. a.0 % 4)
-  pub u2_try_from : Answers base.u2.try_from.Reads.Learnt (λ κs. tried_u2) (λ κs a. up_to 3 a.0)
-  pub u4_max_value : Answers base.u4.max_value.Reads.Learnt (λ κs z. z.0) (λ κs a. 15)
-  pub u4_new : Answers base.u4.new.Reads.Learnt (λ κs z. z.0) (λ κs a. a.0 % 16)
-  pub u4_try_from : Answers base.u4.try_from.Reads.Learnt (λ κs. tried_u4) (λ κs a. up_to 15 a.0)
-  pub u7_max_value : Answers base.u7.max_value.Reads.Learnt (λ κs z. z.0) (λ κs a. 127)
-  pub u7_new : Answers base.u7.new.Reads.Learnt (λ κs z. z.0) (λ κs a. a.0 % 128)
-  pub u7_try_from : Answers base.u7.try_from.Reads.Learnt (λ κs. tried_u7) (λ κs a. up_to 127 a.0)
-  pub u14_max_value : Answers base.u14.max_value.Reads.Learnt (λ κs z. z.0) (λ κs a. 16383)
-  pub u14_new : Answers base.u14.new.Reads.Learnt (λ κs z. z.0) (λ κs a. a.0 % 16384)
-  pub u14_try_from : Answers base.u14.try_from.Reads.Learnt (λ κs. tried_u14) (λ κs a. up_to 16383 a.0)
-  pub u15_max_value : Answers base.u15.max_value.Reads.Learnt (λ κs z. z.0) (λ κs a. 32767)
-  pub u15_new : Answers base.u15.new.Reads.Learnt (λ κs z. z.0) (λ κs a. a.0 % 32768)
-  pub u15_try_from : Answers base.u15.try_from.Reads.Learnt (λ κs. tried_u15) (λ κs a. up_to 32767 a.0)
-  pub u24_max_value : Answers base.u24.max_value.Reads.Learnt (λ κs z. z.0) (λ κs a. 16777215)
-  pub u24_new : Answers base.u24.new.Reads.Learnt (λ κs z. z.0) (λ κs a. a.0 % 16777216)
-  pub u24_try_from : Answers base.u24.try_from.Reads.Learnt (λ κs. tried_u24) (λ κs a. up_to 16777215 a.0)
-  pub u28_max_value : Answers number.u28.max_value.Reads.Learnt (λ κs z. z.0) (λ κs a. 268435455)
-  pub u28_new : Answers number.u28.new.Reads.Learnt (λ κs z. z.0) (λ κs a. a.0 % 268435456)
-  pub u28_try_from : Answers number.u28.try_from.Reads.Learnt (λ κs. tried_u28) (λ κs a. up_to 268435455 a.0)
+  pub u2_max_value : Answers base.int.U2Restricted.max_value.Reads.Learnt (λ κs z. z.0) (λ κs a. 3)
+  pub u2_new : Answers base.int.U2Restricted.new.Reads.Learnt (λ κs z. z.0) (λ κs a. a.0 % 4)
+  pub u2_try_from : Answers base.int.U2TryFromU8.try_from.Reads.Learnt (λ κs. tried_u2) (λ κs a. up_to 3 a.0)
+  pub u4_max_value : Answers base.int.U4Restricted.max_value.Reads.Learnt (λ κs z. z.0) (λ κs a. 15)
+  pub u4_new : Answers base.int.U4Restricted.new.Reads.Learnt (λ κs z. z.0) (λ κs a. a.0 % 16)
+  pub u4_try_from : Answers base.int.U4TryFromU8.try_from.Reads.Learnt (λ κs. tried_u4) (λ κs a. up_to 15 a.0)
+  pub u7_max_value : Answers base.int.U7Restricted.max_value.Reads.Learnt (λ κs z. z.0) (λ κs a. 127)
+  pub u7_new : Answers base.int.U7Restricted.new.Reads.Learnt (λ κs z. z.0) (λ κs a. a.0 % 128)
+  pub u7_try_from : Answers base.int.U7TryFromU8.try_from.Reads.Learnt (λ κs. tried_u7) (λ κs a. up_to 127 a.0)
+  pub u14_max_value : Answers base.int.U14Restricted.max_value.Reads.Learnt (λ κs z. z.0) (λ κs a. 16383)
+  pub u14_new : Answers base.int.U14Restricted.new.Reads.Learnt (λ κs z. z.0) (λ κs a. a.0 % 16384)
+  pub u14_try_from : Answers base.int.U14TryFromU16.try_from.Reads.Learnt (λ κs. tried_u14) (λ κs a. up_to 16383 a.0)
+  pub u15_max_value : Answers base.int.U15Restricted.max_value.Reads.Learnt (λ κs z. z.0) (λ κs a. 32767)
+  pub u15_new : Answers base.int.U15Restricted.new.Reads.Learnt (λ κs z. z.0) (λ κs a. a.0 % 32768)
+  pub u15_try_from : Answers base.int.U15TryFromU16.try_from.Reads.Learnt (λ κs. tried_u15) (λ κs a. up_to 32767 a.0)
+  pub u24_max_value : Answers base.int.U24Restricted.max_value.Reads.Learnt (λ κs z. z.0) (λ κs a. 16777215)
+  pub u24_new : Answers base.int.U24Restricted.new.Reads.Learnt (λ κs z. z.0) (λ κs a. a.0 % 16777216)
+  pub u24_try_from : Answers base.int.U24TryFromU32.try_from.Reads.Learnt (λ κs. tried_u24) (λ κs a. up_to 16777215 a.0)
+  pub u28_max_value : Answers number.varlen.U28Restricted.max_value.Reads.Learnt (λ κs z. z.0) (λ κs a. 268435455)
+  pub u28_new : Answers number.varlen.U28Restricted.new.Reads.Learnt (λ κs z. z.0) (λ κs a. a.0 % 268435456)
+  pub u28_try_from : Answers number.varlen.U28TryFromU32.try_from.Reads.Learnt (λ κs. tried_u28) (λ κs a. up_to 268435455 a.0)
 
 -- document 01, "Bytes of an event" and "Bend values": rates, the position of a time, bends
 pub record Values : Type 0 where
@@ -117,7 +118,7 @@ pub record Left : Type 0 where
   -- where the running status is handed back, and where it is lent: `read_event` promises `Leaves`
   pub read_step : Always events.running.read_step.Reads.Learnt (λ κs a z e.
       LeftBehind (fourth a) (first a).now (second a) (third a) (event_read z.read) z.running.status)
-  pub lent : (raw : List ℕ) (at : ℕ) (running : Running) (rules : Rules) (r : ReadEvent) (left : Running)
+  pub lent : (raw : List ℕ) (at : ℕ) (running : Running) (rules : Rules) (r : Result EventAt EventRefused) (left : Running)
       → Leaves (event_at (rules_of rules) running.status raw at) r left → LeftBehind rules raw at running (event_read r) left.status
 
 -- two sheets and their counts, and the number of a refusal

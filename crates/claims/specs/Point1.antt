@@ -28,7 +28,8 @@ use Rattle.write.specs.Wrote.{wrote_event}
 use Rattle.write.specs.ListAnswers.{size_said, wrote_list}
 use Rattle.write.proofs as write
 use Rattle.bank.specs.Bank.{most_tracks}
-use Rattle.bank.specs.Answers.{held_tracks, bank_of, verdict_of, bank_track, empty_list, bank_wrote}
+use Rattle.bank.specs.Answers.{held_tracks, bank_of, bank_track, empty_list, bank_wrote}
+use Rattle.claims.specs.Handed.{verdict_of}
 use Rattle.claims.specs.Calls.{Always, ReadU7, WriteVarlen, ReadVarlenSlice, WriteVarlenSlice, MetaMessageRead, TrackEventRead, EventListRead, WriteEvent, WriteRow, ListLength, WriteList, RowsLength, WriteRows, After, Silence, WriteSlice, BankRead, BankTrack, ListTrack, WriteBank}
 use Rattle.claims.specs.Table.{in_table, By, Keeps, of_number, of_payload, of_meta, of_length, of_bank, of_bank_track, of_bank_writing}
 use Rattle.claims.specs.EntrySays.{AnswersBy}
@@ -42,13 +43,13 @@ Refuses Told says ns = Always Told (λ κs a z e. By ns (says κs z))
 -- the functions whose refusals give the number alone, and change nothing, since nothing is lent to be changed
 pub record Numbered : Type 0 where
   -- 18: a number above its width
-  pub u2_try_from : Refuses base.u2.try_from.Reads.Learnt (λ κs. tried_u2) (18 ∷ [])
-  pub u4_try_from : Refuses base.u4.try_from.Reads.Learnt (λ κs. tried_u4) (18 ∷ [])
-  pub u7_try_from : Refuses base.u7.try_from.Reads.Learnt (λ κs. tried_u7) (18 ∷ [])
-  pub u14_try_from : Refuses base.u14.try_from.Reads.Learnt (λ κs. tried_u14) (18 ∷ [])
-  pub u15_try_from : Refuses base.u15.try_from.Reads.Learnt (λ κs. tried_u15) (18 ∷ [])
-  pub u24_try_from : Refuses base.u24.try_from.Reads.Learnt (λ κs. tried_u24) (18 ∷ [])
-  pub u28_try_from : Refuses number.u28.try_from.Reads.Learnt (λ κs. tried_u28) (18 ∷ [])
+  pub u2_try_from : Refuses base.int.U2TryFromU8.try_from.Reads.Learnt (λ κs. tried_u2) (18 ∷ [])
+  pub u4_try_from : Refuses base.int.U4TryFromU8.try_from.Reads.Learnt (λ κs. tried_u4) (18 ∷ [])
+  pub u7_try_from : Refuses base.int.U7TryFromU8.try_from.Reads.Learnt (λ κs. tried_u7) (18 ∷ [])
+  pub u14_try_from : Refuses base.int.U14TryFromU16.try_from.Reads.Learnt (λ κs. tried_u14) (18 ∷ [])
+  pub u15_try_from : Refuses base.int.U15TryFromU16.try_from.Reads.Learnt (λ κs. tried_u15) (18 ∷ [])
+  pub u24_try_from : Refuses base.int.U24TryFromU32.try_from.Reads.Learnt (λ κs. tried_u24) (18 ∷ [])
+  pub u28_try_from : Refuses number.varlen.U28TryFromU32.try_from.Reads.Learnt (λ κs. tried_u28) (18 ∷ [])
   -- 17: a header field under two bytes; 15: a format above 2; 16: no such rate; 18: ticks above their width
   pub format_read : Refuses header.format.Format.read.Reads.Learnt (λ κs. format_read_of) (15 ∷ 17 ∷ [])
   pub timing_read_lem : Refuses header.timing.Timing.read.Reads.Learnt (λ κs. timing_read) (16 ∷ 17 ∷ [])

@@ -1,6 +1,10 @@
 -- Point 3, of every list and buffer: a list is written exactly when it is legal and some bytes that fit read strictly as it; what is written
 -- reads so, no bytes that do are fewer, and no other byte changes. No event's bytes begin with those of a different one.
-use Rattle.std.specs.Prelude.{◌≡◌, List, [], ◌∷◌, ◌++◌, map, ◌↔◌, ℕ, ◌≤◌, ◌<◌, length, take, drop}
+use Rattle.write.specs.declared.answer.WriteRefused.{WriteRefused}
+use Rattle.write.specs.declared.answer.Size.{Size}
+use Rattle.write.specs.declared.answer.Past.{Past}
+use Rattle.write.specs.declared.answer.ListRefused.{ListRefused}
+use Rattle.std.specs.Prelude.{◌≡◌, List, [], ◌∷◌, ◌++◌, map, ◌↔◌, ℕ, ◌≤◌, ◌<◌, length, take, drop, Result}
 use borrow.Fn.Kinds.{GoodsP}
 use Rattle.smf.specs.Answer.{Answer, gives, Rules, strict_of}
 use Rattle.smf.specs.Place.{Span}
@@ -18,8 +22,6 @@ use Rattle.track.specs.declared.read.ReadList.{ReadList}
 use Rattle.rows.specs.RowLists.{rows_judged}
 use Rattle.write.specs.Wrote.{wrote_event}
 use Rattle.write.specs.ListAnswers.{wrote_list}
-use Rattle.write.specs.declared.answer.WroteEvent.{WroteEvent}
-use Rattle.write.specs.declared.answer.WroteList.{WroteList}
 use Rattle.write.proofs.records.write_list as write_list_lem
 use Rattle.claims.specs.Calls as shown
 use Rattle.claims.specs.Calls.{Always, EventListRead, WriteEvent, WriteList, WriteRows}
@@ -93,7 +95,7 @@ pub record ReadBack (raw : List ℕ) (r : ListHeld) (n after : ℕ) (bytes : Lis
   pub same : SameList raw r.list.records r.list.count bytes records count
 
 -- a call of `write_list` whose arguments are values of their types, as those of every call are: an array then has all its elements, and a `u8` is a byte
-abbrev pub WriteOwnedList : (EventList → Running → base.Rules → List ℕ → List ℕ → WroteList → List ℕ → Type 0) → Type 0
+abbrev pub WriteOwnedList : (EventList → Running → base.Rules → List ℕ → List ℕ → Result Size ListRefused → List ℕ → Type 0) → Type 0
 WriteOwnedList Claim =
     Always write_list_lem.Reads.Learnt
     (λ κs a r e. GoodsP κs write_list_lem.Kinds.ps a → shown.write_list_call Claim κs a r e)
@@ -107,7 +109,7 @@ module _ (list : EventList) (running : Running) (rules : base.Rules) (bytes : Li
 
 -- an event whose bytes were written at the front of a buffer, and another whose bytes the first begin with, by the same rules, strict or not
 module _ (e : TrackEvent) (running : Running) (rules : base.Rules) (bytes own : List ℕ) where
-  abbrev pub NeverBegins : TrackEvent → Running → base.Rules → List ℕ → List ℕ → ℕ → WroteEvent → List ℕ → Type 0
+  abbrev pub NeverBegins : TrackEvent → Running → base.Rules → List ℕ → List ℕ → ℕ → Result Past WriteRefused → List ℕ → Type 0
   NeverBegins e' running' rules' bytes' out at r end =
       (n : ℕ) (more : List ℕ) → at ≡ 0 → running' ≡ running → strict_of (rules_of rules') ≡ strict_of (rules_of rules) → (wrote_event r end).written.answer ≡ gives n
       → own ≡ take n end ++ more → Same bytes (event_of e) bytes' (event_of e')

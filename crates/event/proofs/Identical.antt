@@ -1,4 +1,7 @@
 -- No two events, and no two answers, say the same.
+use Rattle.event.specs.declared.read.EventRefused.{EventRefused}
+use Rattle.event.specs.declared.read.EventAt.{EventAt}
+use Rattle.std.specs.Prelude.{Err, Ok, Result}
 use mathlib.Core.Path.{◌≡◌, refl, ap}
 use Rattle.smf.specs.Place.{Span}
 use Rattle.smf.specs.Kind as kind
@@ -13,8 +16,6 @@ use Rattle.event.specs.Event.{kind_of, event_of, event_read}
 use Rattle.event.specs.declared.TrackEventKind.{TrackEventKind}
 use Rattle.event.specs.declared.TrackEventKind.TheVariants as track
 use Rattle.event.specs.declared.TrackEvent.{TrackEvent}
-use Rattle.event.specs.declared.read.ReadEvent.{ReadEvent}
-use Rattle.event.specs.declared.read.ReadEvent.TheVariants as read
 
 back_kind : kind.Kind Span → TrackEventKind
 back_kind (kind.midi channel message) = track.Midi (record { 0 = channel }) (back_message message)
@@ -39,14 +40,14 @@ same_event e = ap (λ (k : TrackEventKind). record { delta = e.delta; kind = k }
 pub event_of_injective : {x y : TrackEvent} → event_of x ≡ event_of y → x ≡ y
 event_of_injective = injective event_of back_event same_event
 
-back_read : smf.ReadAt → ReadEvent
-back_read (smf.reads_at e) = read.Event (record { event = back_event e.event; used = e.used; running = record { status = e.running }; padding = e.padding })
-back_read (smf.refused_at n used running padding) = read.Refused (record { refusal = refusal_of n; used = used; running = record { status = running }; padding = padding })
+back_read : smf.ReadAt → Result EventAt EventRefused
+back_read (smf.reads_at e) = Ok (record { event = back_event e.event; used = e.used; running = record { status = e.running }; padding = e.padding })
+back_read (smf.refused_at n used running padding) = Err (record { refusal = refusal_of n; used = used; running = record { status = running }; padding = padding })
 
-same_read : (r : ReadEvent) → back_read (event_read r) ≡ r
+same_read : (r : Result EventAt EventRefused) → back_read (event_read r) ≡ r
 unfolding back_read
-same_read (read.Event e) = ap (λ (x : TrackEvent). read.Event (record { event = x; used = e.used; running = e.running; padding = e.padding })) (same_event e.event)
-same_read (read.Refused n) = ap (λ (x : Refusal). read.Refused (record { refusal = x; used = n.used; running = n.running; padding = n.padding })) (number_back n.refusal)
+same_read (Ok e) = ap (λ (x : TrackEvent). Ok (record { event = x; used = e.used; running = e.running; padding = e.padding })) (same_event e.event)
+same_read (Err n) = ap (λ (x : Refusal). Err (record { refusal = x; used = n.used; running = n.running; padding = n.padding })) (number_back n.refusal)
 
-pub event_read_injective : {x y : ReadEvent} → event_read x ≡ event_read y → x ≡ y
+pub event_read_injective : {x y : Result EventAt EventRefused} → event_read x ≡ event_read y → x ≡ y
 event_read_injective = injective event_read back_read same_read

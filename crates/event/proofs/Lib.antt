@@ -1,2 +1,3 @@
 pub mod Identical
 pub mod IdenticalRunning
+pub mod Tried

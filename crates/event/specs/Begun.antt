@@ -1,6 +1,6 @@
 -- An event of which the delta was read.
 use Rattle.smf.specs.Wire.{Delta}
-use Rattle.event.specs.declared.read.Begun.{Begun}
+use Rattle.event.specs.declared.begun.Begun.{Begun}
 
 -- its delta, with the padding
 abbrev pub delta_of : Begun → Delta

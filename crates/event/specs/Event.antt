@@ -1,5 +1,7 @@
 -- A track event as the definitions take it, and what reading one answers.
-use Rattle.std.specs.Prelude.{ℕ}
+use Rattle.event.specs.declared.read.EventRefused.{EventRefused}
+use Rattle.event.specs.declared.read.EventAt.{EventAt}
+use Rattle.std.specs.Prelude.{ℕ, Err, Ok, Result}
 use Rattle.smf.specs.Place.{Span}
 use Rattle.smf.specs.Kind as kind
 use Rattle.smf.specs.Event as smf
@@ -9,8 +11,6 @@ use Rattle.meta.specs.Meta.{meta_of, span_of}
 use Rattle.event.specs.declared.TrackEventKind.{TrackEventKind}
 use Rattle.event.specs.declared.TrackEventKind.TheVariants as track
 use Rattle.event.specs.declared.TrackEvent.{TrackEvent}
-use Rattle.event.specs.declared.read.ReadEvent.{ReadEvent}
-use Rattle.event.specs.declared.read.ReadEvent.TheVariants as read
 
 -- the kind of each case
 abbrev pub kind_of : TrackEventKind → kind.Kind Span
@@ -28,6 +28,6 @@ abbrev pub event_used : smf.Event Span → ℕ → ℕ → ℕ → smf.ReadAt
 event_used e used running padding = smf.reads_at (record { event = e; used = used; running = running; padding = padding })
 
 -- what `TrackEvent::read` answers
-abbrev pub event_read : ReadEvent → smf.ReadAt
-event_read (read.Event e) = event_used (event_of e.event) e.used e.running.status e.padding
-event_read (read.Refused n) = smf.refused_at (number_of n.refusal) n.used n.running.status n.padding
+abbrev pub event_read : Result EventAt EventRefused → smf.ReadAt
+event_read (Ok e) = event_used (event_of e.event) e.used e.running.status e.padding
+event_read (Err n) = smf.refused_at (number_of n.refusal) n.used n.running.status n.padding

@@ -1,6 +1,7 @@
 // Module 6 of document 01: track events, a delta and a kind.
 #![tactic(auto)]
 
+mod begun;
 mod message;
 pub mod read;
 pub mod running;

@@ -34,8 +34,8 @@ pub fn read(status: u8, first: u7, second: u7) -> MidiMessage
         0xD => MidiMessage::ChannelAftertouch { vel: first },
         _ => {
             // a bend has its low seven bits first, where all else in a file has the high byte first
-            let lsb = first.0 as u16;
-            let msb = second.0 as u16;
+            let lsb = u16::from(first.0);
+            let msb = u16::from(second.0);
             MidiMessage::PitchBend {
                 bend: PitchBend(u14(lsb + 128 * msb)),
             }

@@ -5,14 +5,15 @@ ghost use Rattle.base.specs.Rules.{rules_of};
 ghost use Rattle.event.specs.Lent.{Leaves};
 
 use crate::TrackEvent;
-use crate::read::ReadEvent;
+use crate::read::{EventAt, EventRefused};
 use base::{Rules, Running};
 
-// What the reader answers, with the running status that it leaves taken out of either case.
+// What the reader answers, with the running status that it leaves taken out of either case. The claims `Literals.left` and
+// `Entries` name it, and docs/PROMISES.md does.
 #[derive(Clone, Copy)]
 pub struct Step {
     // the answer
-    pub read: ReadEvent,
+    pub read: Result<EventAt, EventRefused>,
     // the running status after the event, or that the refusal leaves
     pub running: Running,
 }
@@ -23,21 +24,13 @@ pub fn read_step(raw: &[u8], at: usize, running: Running, rules: Rules) -> Step
     ensures { Leaves (event_at (rules_of rules) running.status raw.now at) result.read result.running }
 {
     let read = TrackEvent::read(raw, at, running, rules);
-    match read {
-        ReadEvent::Event(e) => {
-            let after = e.running;
-            Step {
-                read,
-                running: after,
-            }
-        }
-        ReadEvent::Refused(n) => {
-            let left = n.running;
-            Step {
-                read,
-                running: left,
-            }
-        }
+    let left = match read {
+        Ok(e) => e.running,
+        Err(n) => n.running,
+    };
+    Step {
+        read,
+        running: left,
     }
 }
 
@@ -47,7 +40,7 @@ pub fn read_event<'a, 'b>(
     at: usize,
     running: &'b mut Running,
     rules: Rules,
-) -> ReadEvent
+) -> Result<EventAt, EventRefused>
     ensures { Leaves (event_at (rules_of rules) running.old.status raw.now at) result running.new }
 {
     let answer = read_step(raw, at, *running, rules);

@@ -1,11 +1,10 @@
 -- A rate as its number, and what `from_int` answers.
-use Rattle.std.specs.Prelude.{ℕ}
-use Rattle.smf.specs.Answer.{Answer, gives, refuses}
-use Rattle.base.specs.Refusal.{number_of}
+use Rattle.base.specs.declared.Refusal.{Refusal}
+use Rattle.std.specs.Prelude.{ℕ, Result}
+use Rattle.smf.specs.Answer.{Answer}
+use Rattle.base.specs.Said.{said}
 use Rattle.header.specs.declared.Fps.{Fps}
 use Rattle.header.specs.declared.Fps.TheVariants as fps
-use Rattle.header.specs.declared.rate.TriedFps.{TriedFps}
-use Rattle.header.specs.declared.rate.TriedFps.TheVariants as tried
 
 -- the number of a rate
 abbrev pub rate_of : Fps → ℕ
@@ -15,6 +14,5 @@ rate_of fps.Fps29 = 29
 rate_of fps.Fps30 = 30
 
 -- what `Fps::from_int` answers
-abbrev pub tried_fps : TriedFps → Answer ℕ
-tried_fps (tried.Made rate) = gives (rate_of rate)
-tried_fps (tried.Refused n) = refuses (number_of n)
+abbrev pub tried_fps : Result Fps Refusal → Answer ℕ
+tried_fps = said rate_of

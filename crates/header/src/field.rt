@@ -6,5 +6,5 @@ ghost use Rattle.smf.specs.Header as smf;
 pub fn word(high: u8, low: u8) -> u16
     ensures { result ≡ smf.word high low }
 {
-    high as u16 * 256 + low as u16
+    u16::from_be_bytes([high, low])
 }

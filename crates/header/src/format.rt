@@ -7,7 +7,7 @@ use crate::field;
 use base::Refusal;
 
 // How the tracks of a file belong together.
-#[derive(Clone, Copy)]
+#[derive(Clone, Copy, Debug, PartialEq, Eq)]
 pub enum Format {
     // 0: there is one track
     SingleTrack,
@@ -17,29 +17,19 @@ pub enum Format {
     Sequential,
 }
 
-// What `read` answers.
-#[derive(Clone, Copy)]
-pub enum ReadFormat {
-    // the format that the bytes begin with
-    Read(Format),
-    // 17 under two bytes, 15 above 2
-    Refused(Refusal),
-}
-
 impl Format {
     // Reads the format that the bytes begin with; what follows its two bytes is not looked at.
-    pub fn read(raw: &[u8]) -> ReadFormat
+    pub fn read(raw: &[u8]) -> Result<Format, Refusal>
         ensures { format_read_of result ≡ read_format raw.now }
     {
-        if raw.len() < 2 {
-            return ReadFormat::Refused(Refusal::HeaderFieldShort);
-        }
-        let format = field::word(raw[0], raw[1]);
-        match format {
-            0 => ReadFormat::Read(Format::SingleTrack),
-            1 => ReadFormat::Read(Format::Parallel),
-            2 => ReadFormat::Read(Format::Sequential),
-            _ => ReadFormat::Refused(Refusal::NoSuchFormat),
+        let &[high, low, ..] = raw else {
+            return Err(Refusal::HeaderFieldShort);
+        };
+        match field::word(high, low) {
+            0 => Ok(Format::SingleTrack),
+            1 => Ok(Format::Parallel),
+            2 => Ok(Format::Sequential),
+            _ => Err(Refusal::NoSuchFormat),
         }
     }
 

@@ -9,7 +9,7 @@ pub mod smpte;
 pub mod timing;
 
 // The rate of SMPTE times: how many frames a second has.
-#[derive(Clone, Copy)]
+#[derive(Clone, Copy, Debug, PartialEq, Eq)]
 pub enum Fps {
     // 24 frames, as film has
     Fps24,
@@ -23,7 +23,7 @@ pub enum Fps {
 
 // A time of day. The fields are public and may be outside their ranges: a reader never makes such a time, and what is
 // asked of one is refused.
-#[derive(Clone, Copy)]
+#[derive(Clone, Copy, Debug, PartialEq, Eq)]
 pub struct SmpteTime {
     // below 24
     pub hour: u8,

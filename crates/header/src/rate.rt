@@ -6,16 +6,7 @@ ghost use Rattle.smf.specs.Width.{low_bits};
 ghost use Rattle.header.specs.Fps.{rate_of, tried_fps};
 
 use crate::Fps;
-use base::{Refusal, u2};
-
-// What `from_int` answers.
-#[derive(Clone, Copy)]
-pub enum TriedFps {
-    // the rate of that number
-    Made(Fps),
-    // 16: there is no such rate
-    Refused(Refusal),
-}
+use base::{Refusal, Restricted, u2};
 
 impl Fps {
     // The rate of a two-bit code. The Rust's function refuses nothing, so that a code above its width counts by its low
@@ -44,16 +35,17 @@ impl Fps {
         }
     }
 
-    // The rate of a number of frames in a second.
-    pub fn from_int(raw: u8) -> TriedFps
+    // The rate of a number of frames in a second. It has the Rust's name, which docs/RULES.md names; a `TryFrom` beside it would
+    // be a second name of one function.
+    pub fn from_int(raw: u8) -> Result<Fps, Refusal>
         ensures { tried_fps result ≡ to_rate raw }
     {
         match raw {
-            24 => TriedFps::Made(Fps::Fps24),
-            25 => TriedFps::Made(Fps::Fps25),
-            29 => TriedFps::Made(Fps::Fps29),
-            30 => TriedFps::Made(Fps::Fps30),
-            _ => TriedFps::Refused(Refusal::NoSuchRate),
+            24 => Ok(Fps::Fps24),
+            25 => Ok(Fps::Fps25),
+            29 => Ok(Fps::Fps29),
+            30 => Ok(Fps::Fps30),
+            _ => Err(Refusal::NoSuchRate),
         }
     }
 

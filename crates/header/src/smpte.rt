@@ -8,46 +8,11 @@ ghost use Rattle.header.specs.Fps.{rate_of};
 ghost use Rattle.header.specs.Smpte.{smpte_time_of, tried_smpte_time, encoded_smpte_time, asked_second, asked_position};
 
 use crate::{Fps, SmpteTime};
-use base::{Refusal, Rules, u2};
-
-// What `new` and `read` answer.
-#[derive(Clone, Copy)]
-pub enum TriedSmpteTime {
-    // a time inside its ranges
-    Made(SmpteTime),
-    // 13: it is outside them
-    Refused(Refusal),
-}
-
-// What `encode` answers.
-#[derive(Clone, Copy)]
-pub enum EncodedSmpteTime {
-    // the five bytes in their order: hour and rate, minute, second, frame, subframe
-    Bytes(u8, u8, u8, u8, u8),
-    // 18: the time is outside its ranges, and could not be read back
-    Refused(Refusal),
-}
-
-// What `second_f32` answers.
-#[derive(Clone, Copy)]
-pub enum AskedSecond {
-    // the seconds
-    Is(f32),
-    // 13: the time is outside its ranges
-    Refused(Refusal),
-}
-
-// What `position` answers.
-#[derive(Clone, Copy)]
-pub enum AskedPosition {
-    // subframes since the day began
-    Is(u32),
-    // 13: the time is outside its ranges
-    Refused(Refusal),
-}
+use base::{Refusal, Restricted, Rules, u2};
 
 impl SmpteTime {
-    // A time of its six fields, where each is inside its range.
+    // A time of its six fields, where each is inside its range. Here and below, an `if` with its refusal says it as shortly as
+    // `then_some` with `ok_or` and `?`.
     pub fn new(
         hour: u8,
         minute: u8,
@@ -56,7 +21,7 @@ impl SmpteTime {
         subframe: u8,
         fps: Fps,
         rules: Rules,
-    ) -> TriedSmpteTime
+    ) -> Result<SmpteTime, Refusal>
         ensures { tried_smpte_time result ≡ to_time (rules_of rules) (time hour minute second frame subframe (rate_of fps)) }
     {
         let time = SmpteTime {
@@ -68,30 +33,22 @@ impl SmpteTime {
             fps,
         };
         if time.in_range(rules) {
-            TriedSmpteTime::Made(time)
+            Ok(time)
         } else {
-            TriedSmpteTime::Refused(Refusal::SmpteTime)
+            Err(Refusal::SmpteTime)
         }
     }
 
     // Whether every field is inside its range, the frame below the rate's number. No rule touches times yet.
+    #[tactic(auto, unfolding(smf::specs::Smpte::is_time))]
     pub fn in_range(self, rules: Rules) -> bool
         ensures { result ≡ is_time (rules_of rules) (smpte_time_of self) }
     {
-        let fps = self.fps;
-        if 24 <= self.hour {
-            return false;
-        }
-        if 60 <= self.minute {
-            return false;
-        }
-        if 60 <= self.second {
-            return false;
-        }
-        if fps.as_int() <= self.frame {
-            return false;
-        }
-        self.subframe < 100
+        self.hour < 24
+            && self.minute < 60
+            && self.second < 60
+            && self.frame < self.fps.as_int()
+            && self.subframe < 100
     }
 
     // The hour, 0 to 23.
@@ -138,57 +95,54 @@ impl SmpteTime {
 
     // The seconds with frames and subframes as their fraction, without hours and minutes: the Rust's operations in the
     // Rust's order, so that the float is the same bit for bit.
-    pub fn second_f32(self, rules: Rules) -> AskedSecond
+    pub fn second_f32(self, rules: Rules) -> Result<f32, Refusal>
         ensures { asked_second result ≡ seconds_of (rules_of rules) (smpte_time_of self) }
     {
-        let fps = self.fps;
         if !self.in_range(rules) {
-            return AskedSecond::Refused(Refusal::SmpteTime);
+            return Err(Refusal::SmpteTime); // which has no seconds
         }
         let seconds = self.second as f32
-            + ((self.frame as f32 + self.subframe as f32 / 100.0) / fps.as_f32());
-        AskedSecond::Is(seconds)
+            + ((self.frame as f32 + self.subframe as f32 / 100.0) / self.fps.as_f32());
+        Ok(seconds)
     }
 
     // How many subframes of the day have passed, which the Rust does not have.
-    pub fn position(self, rules: Rules) -> AskedPosition
+    pub fn position(self, rules: Rules) -> Result<u32, Refusal>
         ensures { asked_position result ≡ position (rules_of rules) (smpte_time_of self) }
     {
-        let fps = self.fps;
         if !self.in_range(rules) {
-            return AskedPosition::Refused(Refusal::SmpteTime);
+            return Err(Refusal::SmpteTime); // which has no position
         }
         let seconds = 3600 * self.hour as u32 + 60 * self.minute as u32 + self.second as u32;
-        let frames = seconds * fps.as_int() as u32 + self.frame as u32;
+        let frames = seconds * self.fps.as_int() as u32 + self.frame as u32;
         let subframes = frames * 100 + self.subframe as u32;
-        AskedPosition::Is(subframes)
+        Ok(subframes)
     }
 
     // Reads a time of the five bytes of a message. Hour and rate code share the first, whose bit 7 is not looked at.
-    pub fn read(bytes: [u8; 5], rules: Rules) -> TriedSmpteTime
+    pub fn read(bytes: [u8; 5], rules: Rules) -> Result<SmpteTime, Refusal>
         ensures { tried_smpte_time result ≡ time_of (rules_of rules) (get_or bytes 0 0) (get_or bytes 1 0) (get_or bytes 2 0) (get_or bytes 3 0) (get_or bytes 4 0) }
     {
-        let hour_fps = bytes[0];
+        let [hour_fps, minute, second, frame, subframe] = bytes;
         let hour = hour_fps & 0x1F;
         let fps = Fps::from_code(u2::new(hour_fps >> 5));
-        SmpteTime::new(hour, bytes[1], bytes[2], bytes[3], bytes[4], fps, rules)
+        SmpteTime::new(hour, minute, second, frame, subframe, fps, rules)
     }
 
     // The five bytes of the time.
-    pub fn encode(self, rules: Rules) -> EncodedSmpteTime
+    pub fn encode(self, rules: Rules) -> Result<[u8; 5], Refusal>
         ensures { encoded_smpte_time result ≡ encode_time (rules_of rules) (smpte_time_of self) }
     {
-        let fps = self.fps;
         if !self.in_range(rules) {
-            return EncodedSmpteTime::Refused(Refusal::AboveWidth);
+            return Err(Refusal::AboveWidth);
         }
-        let hour_fps = self.hour | fps.as_code().as_int() << 5;
-        EncodedSmpteTime::Bytes(
+        let hour_fps = self.hour | self.fps.as_code().as_int() << 5;
+        Ok([
             hour_fps,
             self.minute,
             self.second,
             self.frame,
             self.subframe,
-        )
+        ])
     }
 }

@@ -3,12 +3,11 @@ ghost use Rattle.std.specs.Prelude.{◌≡◌};
 ghost use Rattle.smf.specs.Header.{read_timing, encode_timing};
 ghost use Rattle.header.specs.Timing.{timing_of, timing_read, timing_encoded};
 
-use crate::rate::TriedFps;
 use crate::{Fps, field, signed};
-use base::{Refusal, u15};
+use base::{Refusal, Restricted, u15};
 
 // What a tick is.
-#[derive(Clone, Copy)]
+#[derive(Clone, Copy, Debug, PartialEq, Eq)]
 pub enum Timing {
     // a part of a beat: how many ticks a beat has
     Metrical(u15),
@@ -16,62 +15,38 @@ pub enum Timing {
     Timecode(Fps, u8),
 }
 
-// What `read` answers.
-#[derive(Clone, Copy)]
-pub enum ReadTiming {
-    // the timing that the bytes begin with
-    Read(Timing),
-    // 17 under two bytes, 16 where there is no such rate
-    Refused(Refusal),
-}
-
-// What `encode` answers.
-#[derive(Clone, Copy)]
-pub enum EncodedTiming {
-    // the two bytes, the high one first
-    Bytes(u8, u8),
-    // 18: the ticks are above 15 bits
-    Refused(Refusal),
-}
-
 impl Timing {
     // Reads the timing that the bytes begin with; what follows its two bytes is not looked at.
-    pub fn read(raw: &[u8]) -> ReadTiming
+    pub fn read(raw: &[u8]) -> Result<Timing, Refusal>
         ensures { timing_read result ≡ read_timing raw.now }
     {
-        if raw.len() < 2 {
-            return ReadTiming::Refused(Refusal::HeaderFieldShort);
-        }
-        let high = raw[0];
-        let low = raw[1];
+        let &[high, low, ..] = raw else {
+            return Err(Refusal::HeaderFieldShort);
+        };
         if high < 128 {
-            return ReadTiming::Read(Timing::Metrical(u15(field::word(high, low))));
+            return Ok(Timing::Metrical(u15(field::word(high, low))));
         }
         // The high byte is minus the rate. It is negated at 16 bits, where minus 128 has an opposite.
         let rate = signed::negated(signed::from_byte(high)) as u8;
-        match Fps::from_int(rate) {
-            TriedFps::Made(fps) => ReadTiming::Read(Timing::Timecode(fps, low)),
-            TriedFps::Refused(refusal) => ReadTiming::Refused(refusal),
-        }
+        let fps = Fps::from_int(rate)?;
+        Ok(Timing::Timecode(fps, low))
     }
 
     // The two bytes of the timing.
-    pub fn encode(self) -> EncodedTiming
+    pub fn encode(self) -> Result<[u8; 2], Refusal>
         ensures { timing_encoded result ≡ encode_timing (timing_of self) }
     {
         match self {
             Timing::Metrical(ticks) => {
                 let ticks = ticks.as_int();
                 if 32767 < ticks {
-                    return EncodedTiming::Refused(Refusal::AboveWidth);
+                    return Err(Refusal::AboveWidth);
                 }
-                let high = (ticks / 256) as u8;
-                let low = (ticks % 256) as u8;
-                EncodedTiming::Bytes(high, low)
+                Ok(ticks.to_be_bytes())
             }
             Timing::Timecode(fps, subframe) => {
                 let minus = -(fps.as_int() as i8);
-                EncodedTiming::Bytes(signed::to_byte(minus), subframe)
+                Ok([signed::to_byte(minus), subframe])
             }
         }
     }

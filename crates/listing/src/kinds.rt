@@ -1,147 +1,124 @@
 // A kind as it is listed: the Rust's variant name, then its fields in the Rust's order.
-use crate::text::{byte, less, number, word};
 use base::Range;
 use event::TrackEventKind;
 use header::SmpteTime;
-use header::signed::to_byte;
-use meta::{MetaMessage, OptionU16};
+use meta::MetaMessage;
 use midi::MidiMessage;
-use std::io;
+use std::fmt;
 
-// A payload: its start and its length in the input.
-fn load(out: &impl Print, range: Range) -> io::Result<()> {
-    number(out, range.start as u64)?;
-    number(out, range.length as u64)
+// The kind of an event, as it is listed.
+#[derive(Clone, Copy)]
+pub struct Kind(pub TrackEventKind);
+
+impl fmt::Display for Kind {
+    fn fmt<W: fmt::Write>(&self, f: &mut fmt::Formatter<W>) -> fmt::Result {
+        match self.0 {
+            TrackEventKind::Midi { channel, message } => midi(f, channel.0, message),
+            TrackEventKind::SysEx(range) => loaded(f, "SysEx", range),
+            TrackEventKind::Escape(range) => loaded(f, "Escape", range),
+            TrackEventKind::Meta(message) => meta(f, message),
+        }
+    }
 }
 
-// A kind that is its payload alone.
-fn loaded(out: &impl Print, name: &[u8], range: Range) -> io::Result<()> {
-    word(out, name)?;
-    load(out, range)
+// A kind that is its payload alone: its start and its length in the input.
+fn loaded<W: fmt::Write>(f: &mut fmt::Formatter<W>, name: &str, range: Range) -> fmt::Result {
+    let start = range.start;
+    let length = range.length;
+    write!(f, "{name} {start} {length}")
 }
 
 // A channel message with one data byte.
-fn one(out: &impl Print, name: &[u8], channel: u8, a: u8) -> io::Result<()> {
-    word(out, name)?;
-    byte(out, channel)?;
-    byte(out, a)
+fn one<W: fmt::Write>(f: &mut fmt::Formatter<W>, name: &str, channel: u8, a: u8) -> fmt::Result {
+    write!(f, "{name} {channel} {a}")
 }
 
 // A channel message with two data bytes.
-fn two(out: &impl Print, name: &[u8], channel: u8, a: u8, b: u8) -> io::Result<()> {
-    one(out, name, channel, a)?;
-    byte(out, b)
+fn two<W: fmt::Write>(
+    f: &mut fmt::Formatter<W>,
+    name: &str,
+    channel: u8,
+    a: u8,
+    b: u8,
+) -> fmt::Result {
+    write!(f, "{name} {channel} {a} {b}")
 }
 
 // A channel message; a bend is signed.
-fn midi(out: &impl Print, channel: u8, message: MidiMessage) -> io::Result<()> {
+fn midi<W: fmt::Write>(
+    f: &mut fmt::Formatter<W>,
+    channel: u8,
+    message: MidiMessage,
+) -> fmt::Result {
     match message {
-        MidiMessage::NoteOff { key, vel } => two(out, b" NoteOff", channel, key.0, vel.0),
-        MidiMessage::NoteOn { key, vel } => two(out, b" NoteOn", channel, key.0, vel.0),
-        MidiMessage::Aftertouch { key, vel } => two(out, b" Aftertouch", channel, key.0, vel.0),
+        MidiMessage::NoteOff { key, vel } => two(f, "NoteOff", channel, key.0, vel.0),
+        MidiMessage::NoteOn { key, vel } => two(f, "NoteOn", channel, key.0, vel.0),
+        MidiMessage::Aftertouch { key, vel } => two(f, "Aftertouch", channel, key.0, vel.0),
         MidiMessage::Controller { controller, value } => {
-            two(out, b" Controller", channel, controller.0, value.0)
+            two(f, "Controller", channel, controller.0, value.0)
         }
-        MidiMessage::ProgramChange { program } => one(out, b" ProgramChange", channel, program.0),
-        MidiMessage::ChannelAftertouch { vel } => one(out, b" ChannelAftertouch", channel, vel.0),
+        MidiMessage::ProgramChange { program } => one(f, "ProgramChange", channel, program.0),
+        MidiMessage::ChannelAftertouch { vel } => one(f, "ChannelAftertouch", channel, vel.0),
         MidiMessage::PitchBend { bend } => {
-            let raw = bend.0;
-            word(out, b" PitchBend")?;
-            byte(out, channel)?;
-            less(out, raw.0, 0x2000)
+            let signed = i32::from(bend.0.0) - 0x2000;
+            write!(f, "PitchBend {channel} {signed}")
         }
     }
 }
 
 // A track number, or `none` where it is missing.
-fn track_number(out: &impl Print, n: OptionU16) -> io::Result<()> {
-    word(out, b" TrackNumber")?;
-    match n {
-        OptionU16::Some(x) => number(out, x as u64),
-        OptionU16::None => word(out, b" none"),
+fn track_number<W: fmt::Write>(f: &mut fmt::Formatter<W>, number: Option<u16>) -> fmt::Result {
+    match number {
+        Some(n) => write!(f, "TrackNumber {n}"),
+        None => f.write_str("TrackNumber none"),
     }
 }
 
 // An SMPTE time, its rate last.
-fn smpte_offset(out: &impl Print, time: SmpteTime) -> io::Result<()> {
-    let fps = time.fps;
-    word(out, b" SmpteOffset")?;
-    byte(out, time.hour)?;
-    byte(out, time.minute)?;
-    byte(out, time.second)?;
-    byte(out, time.frame)?;
-    byte(out, time.subframe)?;
-    byte(out, fps.as_int())
-}
-
-// The four bytes of a time signature.
-fn time_signature(out: &impl Print, a: u8, b: u8, c: u8, d: u8) -> io::Result<()> {
-    word(out, b" TimeSignature")?;
-    byte(out, a)?;
-    byte(out, b)?;
-    byte(out, c)?;
-    byte(out, d)
+fn smpte_offset<W: fmt::Write>(f: &mut fmt::Formatter<W>, time: SmpteTime) -> fmt::Result {
+    let hour = time.hour;
+    let minute = time.minute;
+    let second = time.second;
+    let frame = time.frame;
+    let subframe = time.subframe;
+    let rate = time.fps.as_int();
+    write!(
+        f,
+        "SmpteOffset {hour} {minute} {second} {frame} {subframe} {rate}"
+    )
 }
 
 // A key signature: the sharps with their sign, then 1 for minor and 0 for major.
-fn key_signature(out: &impl Print, sharps: i8, minor: bool) -> io::Result<()> {
-    word(out, b" KeySignature")?;
-    if sharps < 0 {
-        less(out, to_byte(sharps) as u16, 0x100)?;
-    } else {
-        byte(out, to_byte(sharps))?;
-    }
-    if minor {
-        word(out, b" 1")
-    } else {
-        word(out, b" 0")
-    }
+fn key_signature<W: fmt::Write>(f: &mut fmt::Formatter<W>, sharps: i8, minor: bool) -> fmt::Result {
+    let minor = u8::from(minor);
+    write!(f, "KeySignature {sharps} {minor}")
 }
 
 // A meta message.
-fn meta(out: &impl Print, message: MetaMessage) -> io::Result<()> {
+fn meta<W: fmt::Write>(f: &mut fmt::Formatter<W>, message: MetaMessage) -> fmt::Result {
     match message {
-        MetaMessage::TrackNumber(n) => track_number(out, n),
-        MetaMessage::Text(range) => loaded(out, b" Text", range),
-        MetaMessage::Copyright(range) => loaded(out, b" Copyright", range),
-        MetaMessage::TrackName(range) => loaded(out, b" TrackName", range),
-        MetaMessage::InstrumentName(range) => loaded(out, b" InstrumentName", range),
-        MetaMessage::Lyric(range) => loaded(out, b" Lyric", range),
-        MetaMessage::Marker(range) => loaded(out, b" Marker", range),
-        MetaMessage::CuePoint(range) => loaded(out, b" CuePoint", range),
-        MetaMessage::ProgramName(range) => loaded(out, b" ProgramName", range),
-        MetaMessage::DeviceName(range) => loaded(out, b" DeviceName", range),
-        MetaMessage::MidiChannel(channel) => {
-            word(out, b" MidiChannel")?;
-            byte(out, channel.0)
-        }
-        MetaMessage::MidiPort(port) => {
-            word(out, b" MidiPort")?;
-            byte(out, port.0)
-        }
-        MetaMessage::EndOfTrack => word(out, b" EndOfTrack"),
-        MetaMessage::Tempo(tempo) => {
-            word(out, b" Tempo")?;
-            number(out, tempo.0 as u64)
-        }
-        MetaMessage::SmpteOffset(time) => smpte_offset(out, time),
-        MetaMessage::TimeSignature(a, b, c, d) => time_signature(out, a, b, c, d),
-        MetaMessage::KeySignature(sharps, minor) => key_signature(out, sharps, minor),
-        MetaMessage::SequencerSpecific(range) => loaded(out, b" SequencerSpecific", range),
+        MetaMessage::TrackNumber(number) => track_number(f, number),
+        MetaMessage::Text(range) => loaded(f, "Text", range),
+        MetaMessage::Copyright(range) => loaded(f, "Copyright", range),
+        MetaMessage::TrackName(range) => loaded(f, "TrackName", range),
+        MetaMessage::InstrumentName(range) => loaded(f, "InstrumentName", range),
+        MetaMessage::Lyric(range) => loaded(f, "Lyric", range),
+        MetaMessage::Marker(range) => loaded(f, "Marker", range),
+        MetaMessage::CuePoint(range) => loaded(f, "CuePoint", range),
+        MetaMessage::ProgramName(range) => loaded(f, "ProgramName", range),
+        MetaMessage::DeviceName(range) => loaded(f, "DeviceName", range),
+        MetaMessage::MidiChannel(channel) => write!(f, "MidiChannel {}", channel.0),
+        MetaMessage::MidiPort(port) => write!(f, "MidiPort {}", port.0),
+        MetaMessage::EndOfTrack => f.write_str("EndOfTrack"),
+        MetaMessage::Tempo(tempo) => write!(f, "Tempo {}", tempo.0),
+        MetaMessage::SmpteOffset(time) => smpte_offset(f, time),
+        MetaMessage::TimeSignature(a, b, c, d) => write!(f, "TimeSignature {a} {b} {c} {d}"),
+        MetaMessage::KeySignature(sharps, minor) => key_signature(f, sharps, minor),
+        MetaMessage::SequencerSpecific(range) => loaded(f, "SequencerSpecific", range),
         MetaMessage::Unknown(kind, range) => {
-            word(out, b" Unknown")?;
-            byte(out, kind)?;
-            load(out, range)
+            let start = range.start;
+            let length = range.length;
+            write!(f, "Unknown {kind} {start} {length}")
         }
-    }
-}
-
-// The kind of an event.
-pub fn kind(out: &impl Print, what: TrackEventKind) -> io::Result<()> {
-    match what {
-        TrackEventKind::Midi { channel, message } => midi(out, channel.0, message),
-        TrackEventKind::SysEx(range) => loaded(out, b" SysEx", range),
-        TrackEventKind::Escape(range) => loaded(out, b" Escape", range),
-        TrackEventKind::Meta(message) => meta(out, message),
     }
 }

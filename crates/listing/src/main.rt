@@ -4,16 +4,13 @@
 
 mod banks;
 mod events;
-mod input;
 mod kinds;
-mod text;
 
 use crate::banks::{is_given, told};
 use crate::events::listed;
-use crate::input::read_full;
-use crate::text::{line_end, word};
 use base::{Rules, Running};
 use std::io;
+use std::io::Read;
 use track::list::EventList;
 
 // The most bytes that are listed. They are no fewer than a bank may have, `bank::LARGEST`, so that one byte more shows
@@ -23,21 +20,15 @@ const LONGEST: usize = 65536;
 // Reads standard input and lists it. Of a bank that is too long the bytes that are read are too long too, and have its
 // count, so that they are refused by its number.
 fn main(rt: HostRuntime) -> io::Result<()> {
+    let mut bytes = Vec::new(rt.alloc());
     // one byte more than is listed, to see that there is more
-    let mut buffer = [0u8; LONGEST + 1];
-    let length = read_full(&mut rt.stdin(), &mut buffer)?;
+    rt.stdin().take(LONGEST as u64 + 1).read_to_end(&mut bytes)?;
     if is_given(&rt, 1) {
-        return told(&rt, &buffer[..length]);
+        return told(&rt, &bytes);
     }
-    if LONGEST < length {
-        word(&rt, b"too long")?;
-        return line_end(&rt);
+    if LONGEST < bytes.len() {
+        return println!(&rt; "too long");
     }
-    let read = EventList::read(
-        &buffer[..length],
-        0,
-        Running { status: 0 },
-        Rules { strict: false },
-    );
-    listed(&rt, read)
+    let read = EventList::read(&bytes, 0, Running { status: 0 }, Rules { strict: false });
+    listed(&rt, &read)
 }

@@ -1,19 +1,20 @@
-// The entries for bends: the raw bend of 14 bits, as a signed integer or as a float and back.
+// The entries for bends: the raw bend of 14 bits, as a signed integer or as a float and back. C has a name for each width of
+// a float.
 ghost use Rattle.std.specs.Prelude.{◌≡◌, ℤ, pos, Float};
 ghost use Rattle.std.specs.Float.{binary32, binary64};
 ghost use Rattle.smf.specs.Bend.{lowest, highest, raw_bend, raw_bend_of_float, ask_bend, ask_float};
 ghost use Rattle.loader.specs.Entry.{answered, leaves};
 
-use base::u14;
+use crate::told;
+use base::{Restricted, u14};
 use midi::PitchBend;
-use midi::bend::{BendF32, BendF64, BendInt};
 
 // The raw bend of full bend downwards.
 #[unsafe(no_mangle)]
 pub extern "C" fn apk_bend_min_raw_value() -> u16
     ensures { result ≡ raw_bend lowest }
 {
-    raw(PitchBend::min_raw_value())
+    PitchBend::min_raw_value().0.as_int()
 }
 
 // The raw bend of no bend.
@@ -21,7 +22,7 @@ pub extern "C" fn apk_bend_min_raw_value() -> u16
 pub extern "C" fn apk_bend_mid_raw_value() -> u16
     ensures { result ≡ raw_bend (pos 0) }
 {
-    raw(PitchBend::mid_raw_value())
+    PitchBend::mid_raw_value().0.as_int()
 }
 
 // The raw bend of full bend upwards.
@@ -29,7 +30,7 @@ pub extern "C" fn apk_bend_mid_raw_value() -> u16
 pub extern "C" fn apk_bend_max_raw_value() -> u16
     ensures { result ≡ raw_bend highest }
 {
-    raw(PitchBend::max_raw_value())
+    PitchBend::max_raw_value().0.as_int()
 }
 
 // The raw bend of an integer.
@@ -37,7 +38,7 @@ pub extern "C" fn apk_bend_max_raw_value() -> u16
 pub extern "C" fn apk_bend_from_int(int: i16) -> u16
     ensures { result ≡ raw_bend int }
 {
-    raw(PitchBend::from_int(int))
+    PitchBend::from_int(int).0.as_int()
 }
 
 // The raw bend of a float.
@@ -45,7 +46,7 @@ pub extern "C" fn apk_bend_from_int(int: i16) -> u16
 pub extern "C" fn apk_bend_from_f32(float: f32) -> u16
     ensures { result ≡ raw_bend_of_float float }
 {
-    raw(PitchBend::from_f32(float))
+    PitchBend::from_f32(float).0.as_int()
 }
 
 // The raw bend of a float of 64 bits.
@@ -53,15 +54,7 @@ pub extern "C" fn apk_bend_from_f32(float: f32) -> u16
 pub extern "C" fn apk_bend_from_f64(float: f64) -> u16
     ensures { result ≡ raw_bend_of_float float }
 {
-    raw(PitchBend::from_f64(float))
-}
-
-// The number of a bend.
-fn raw(bend: PitchBend) -> u16
-    ensures { result ≡ bend.0.0 }
-{
-    let raw = bend.0;
-    raw.as_int()
+    PitchBend::from_f64(float).0.as_int()
 }
 
 // A raw bend as an integer.
@@ -70,13 +63,7 @@ pub extern "C" fn apk_bend_as_int(raw: u16, int: &mut i16) -> u8
     ensures answer { result ≡ answered (ask_bend raw) }
     ensures int { int.new ≡ leaves (λ (z : ℤ). z) (ask_bend raw) int.old }
 {
-    match PitchBend(u14(raw)).as_int() {
-        BendInt::Refused(refusal) => refusal.number(),
-        BendInt::Value(found) => {
-            *int = found;
-            0
-        }
-    }
+    told(PitchBend(u14(raw)).as_int(), int)
 }
 
 // A raw bend as a float.
@@ -85,13 +72,7 @@ pub extern "C" fn apk_bend_as_f32(raw: u16, float: &mut f32) -> u8
     ensures answer { result ≡ answered (ask_float binary32 raw) }
     ensures float { float.new ≡ leaves (λ (x : Float). x) (ask_float binary32 raw) float.old }
 {
-    match PitchBend(u14(raw)).as_f32() {
-        BendF32::Refused(refusal) => refusal.number(),
-        BendF32::Value(found) => {
-            *float = found;
-            0
-        }
-    }
+    told(PitchBend(u14(raw)).as_f32(), float)
 }
 
 // A raw bend as a float of 64 bits.
@@ -100,11 +81,5 @@ pub extern "C" fn apk_bend_as_f64(raw: u16, float: &mut f64) -> u8
     ensures answer { result ≡ answered (ask_float binary64 raw) }
     ensures float { float.new ≡ leaves (λ (x : Float). x) (ask_float binary64 raw) float.old }
 {
-    match PitchBend(u14(raw)).as_f64() {
-        BendF64::Refused(refusal) => refusal.number(),
-        BendF64::Value(found) => {
-            *float = found;
-            0
-        }
-    }
+    told(PitchBend(u14(raw)).as_f64(), float)
 }

@@ -5,11 +5,10 @@ ghost use Rattle.smf.specs.Place.{NumberAt, PayloadAt, number_at, payload_at};
 ghost use Rattle.smf.specs.Write.{write, number_bytes, payload_bytes};
 ghost use Rattle.loader.specs.Entry.{from_bits, answered, leaves};
 
-use crate::rules;
+use crate::{rules, told};
 use base::Range;
-use number::payload::ReadSlice;
+use number::payload::{read_varlen_slice, write_varlen_slice};
 use number::u28;
-use number::varlen::{ReadNumber, WroteNumber};
 
 // The number at a place: its value, the place after it, and its padding.
 #[unsafe(no_mangle)]
@@ -26,15 +25,10 @@ pub extern "C" fn apk_number_read(
     ensures next { next.new ≡ leaves (λ (n : NumberAt). n.next) (number_at (from_bits bits) bytes.now at) next.old }
     ensures padding { padding.new ≡ leaves (λ (n : NumberAt). n.padding) (number_at (from_bits bits) bytes.now at) padding.old }
 {
-    match u28::read_u7(bytes, at, rules(bits)) {
-        ReadNumber::Refused(refusal) => refusal.number(),
-        ReadNumber::Number(found) => {
-            *value = found.value.0;
-            *next = found.next;
-            *padding = found.padding;
-            0
-        }
-    }
+    let found = u28::read_u7(bytes, at, rules(bits));
+    told(found.map(|number| number.value.0), value);
+    told(found.map(|number| number.next), next);
+    told(found.map(|number| number.padding), padding)
 }
 
 // How many bytes the shortest form of a number has.
@@ -52,13 +46,7 @@ pub extern "C" fn apk_number_write(value: u32, out: &mut [u8], at: usize, next: 
     ensures buffer { out.new ≡ (write (number_bytes value) out.old at).buffer }
     ensures next { next.new ≡ leaves (λ (n : ℕ). n) (write (number_bytes value) out.old at).answer next.old }
 {
-    match u28(value).write_varlen(out, at) {
-        WroteNumber::Refused(refusal) => refusal.number(),
-        WroteNumber::Next(end) => {
-            *next = end;
-            0
-        }
-    }
+    told(u28(value).write_varlen(out, at), next)
 }
 
 // The payload at a place: its start, its length, and the padding of its number. The place after it is the sum of the
@@ -77,15 +65,10 @@ pub extern "C" fn apk_payload_read(
     ensures length { length.new ≡ leaves (λ (n : PayloadAt). n.span.length) (payload_at (from_bits bits) bytes.now at) length.old }
     ensures padding { padding.new ≡ leaves (λ (n : PayloadAt). n.padding) (payload_at (from_bits bits) bytes.now at) padding.old }
 {
-    match number::payload::read_varlen_slice(bytes, at, rules(bits)) {
-        ReadSlice::Refused(refusal) => refusal.number(),
-        ReadSlice::Slice(found) => {
-            *start = found.range.start;
-            *length = found.range.length;
-            *padding = found.padding;
-            0
-        }
-    }
+    let found = read_varlen_slice(bytes, at, rules(bits));
+    told(found.map(|payload| payload.range.start), start);
+    told(found.map(|payload| payload.range.length), length);
+    told(found.map(|payload| payload.padding), padding)
 }
 
 // Writes a range of the bytes lent as a payload at a place of a lent buffer: the place after it.
@@ -102,11 +85,8 @@ pub extern "C" fn apk_payload_write(
     ensures buffer { out.new ≡ (write (payload_bytes payload.now start length) out.old at).buffer }
     ensures next { next.new ≡ leaves (λ (n : ℕ). n) (write (payload_bytes payload.now start length) out.old at).answer next.old }
 {
-    match number::payload::write_varlen_slice(payload, Range { start, length }, out, at) {
-        WroteNumber::Refused(refusal) => refusal.number(),
-        WroteNumber::Next(end) => {
-            *next = end;
-            0
-        }
-    }
+    told(
+        write_varlen_slice(payload, Range { start, length }, out, at),
+        next,
+    )
 }

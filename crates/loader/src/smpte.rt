@@ -1,17 +1,16 @@
-// The entries for rates and SMPTE times. A rate goes over as its number, a time as six: hour, minute, second, frame, subframe, rate.
+// The entries for rates and SMPTE times. A rate goes over as its number, a time as six, since C gives no struct: hour,
+// minute, second, frame, subframe, rate.
 ghost use Rattle.std.specs.Prelude.{◌≡◌, List, ℕ, Float};
 ghost use Rattle.smf.specs.Answer.{and_then};
 ghost use Rattle.smf.specs.Seconds.{rate_float, seconds_of};
 ghost use Rattle.smf.specs.Smpte.{to_rate, rate_of_code, code_of_rate, to_time, time_of, encode_time, position};
 ghost use Rattle.smf.specs.Width.{low_bits};
-ghost use Rattle.header.specs.Smpte.{tried_smpte_time};
+ghost use Rattle.header.specs.Smpte.{smpte_time_of, tried_smpte_time};
 ghost use Rattle.loader.specs.Entry.{from_bits, answered, leaves};
 ghost use Rattle.loader.specs.Smpte.{time_given, six_of};
 
-use crate::rules;
-use base::u2;
-use header::rate::TriedFps;
-use header::smpte::{AskedPosition, AskedSecond, EncodedSmpteTime, TriedSmpteTime};
+use crate::{rules, told};
+use base::{Refusal, Restricted, u2};
 use header::{Fps, SmpteTime};
 
 // The rate of a code, whose low two bits count.
@@ -28,13 +27,7 @@ pub extern "C" fn apk_fps_as_code(rate: u8, code: &mut u8) -> u8
     ensures answer { result ≡ answered (to_rate rate) }
     ensures code { code.new ≡ leaves code_of_rate (to_rate rate) code.old }
 {
-    match Fps::from_int(rate) {
-        TriedFps::Refused(refusal) => refusal.number(),
-        TriedFps::Made(fps) => {
-            *code = fps.as_code().as_int();
-            0
-        }
-    }
+    told(Fps::from_int(rate).map(|fps| fps.as_code().as_int()), code)
 }
 
 // The rate of a whole number of frames in a second.
@@ -43,13 +36,7 @@ pub extern "C" fn apk_fps_from_int(raw: u8, rate: &mut u8) -> u8
     ensures answer { result ≡ answered (to_rate raw) }
     ensures rate { rate.new ≡ leaves (λ (n : ℕ). n) (to_rate raw) rate.old }
 {
-    match Fps::from_int(raw) {
-        TriedFps::Refused(refusal) => refusal.number(),
-        TriedFps::Made(fps) => {
-            *rate = fps.as_int();
-            0
-        }
-    }
+    told(Fps::from_int(raw).map(Fps::as_int), rate)
 }
 
 // The frames in a second at a rate, as a float.
@@ -58,31 +45,30 @@ pub extern "C" fn apk_fps_as_f32(rate: u8, frames: &mut f32) -> u8
     ensures answer { result ≡ answered (to_rate rate) }
     ensures frames { frames.new ≡ leaves rate_float (to_rate rate) frames.old }
 {
-    match Fps::from_int(rate) {
-        TriedFps::Refused(refusal) => refusal.number(),
-        TriedFps::Made(fps) => {
-            *frames = fps.as_f32();
-            0
-        }
-    }
+    told(Fps::from_int(rate).map(Fps::as_f32), frames)
 }
 
-// The time of six numbers, in its ranges or not: what the entries below have first of what they are given. 16 where the
-// last is no rate.
-fn time_given(hour: u8, minute: u8, second: u8, frame: u8, subframe: u8, rate: u8) -> TriedSmpteTime
+// The time of six numbers, in its ranges or not: what the entries that take a time have first of what they are given. 16
+// where the last is no rate.
+fn time_given(
+    hour: u8,
+    minute: u8,
+    second: u8,
+    frame: u8,
+    subframe: u8,
+    rate: u8,
+) -> Result<SmpteTime, Refusal>
     ensures { tried_smpte_time result ≡ time_given hour minute second frame subframe rate }
 {
-    match Fps::from_int(rate) {
-        TriedFps::Refused(refusal) => TriedSmpteTime::Refused(refusal),
-        TriedFps::Made(fps) => TriedSmpteTime::Made(SmpteTime {
-            hour,
-            minute,
-            second,
-            frame,
-            subframe,
-            fps,
-        }),
-    }
+    let fps = Fps::from_int(rate)?;
+    Ok(SmpteTime {
+        hour,
+        minute,
+        second,
+        frame,
+        subframe,
+        fps,
+    })
 }
 
 // Whether six numbers are an SMPTE time.
@@ -98,21 +84,10 @@ pub extern "C" fn apk_smpte_new(
 ) -> u8
     ensures { result ≡ answered (and_then (time_given hour minute second frame subframe rate) (to_time (from_bits bits))) }
 {
-    match Fps::from_int(rate) {
-        TriedFps::Refused(refusal) => refusal.number(),
-        TriedFps::Made(fps) => match SmpteTime::new(
-            hour,
-            minute,
-            second,
-            frame,
-            subframe,
-            fps,
-            rules(bits),
-        ) {
-            TriedSmpteTime::Refused(refusal) => refusal.number(),
-            TriedSmpteTime::Made(_) => 0,
-        },
-    }
+    let made = Fps::from_int(rate).and_then(|fps| {
+        SmpteTime::new(hour, minute, second, frame, subframe, fps, rules(bits))
+    });
+    made.map_or_else(u8::from, |_| 0)
 }
 
 // The SMPTE time of five bytes, of which the first holds hour and rate code.
@@ -129,20 +104,22 @@ pub extern "C" fn apk_smpte_read(
     ensures answer { result ≡ answered (time_of (from_bits bits) first minute second frame subframe) }
     ensures time { time.new ≡ leaves six_of (time_of (from_bits bits) first minute second frame subframe) time.old }
 {
-    match SmpteTime::read([first, minute, second, frame, subframe], rules(bits)) {
-        TriedSmpteTime::Refused(refusal) => refusal.number(),
-        TriedSmpteTime::Made(found) => {
-            *time = [
-                found.hour(),
-                found.minute(),
-                found.second(),
-                found.frame(),
-                found.subframe(),
-                found.fps().as_int(),
-            ];
-            0
-        }
-    }
+    let found = SmpteTime::read([first, minute, second, frame, subframe], rules(bits));
+    told(found.map(six_of), time)
+}
+
+// The six numbers of a time, as C is told it.
+fn six_of(time: SmpteTime) -> [u8; 6]
+    ensures { result ≡ six_of (smpte_time_of time) }
+{
+    [
+        time.hour(),
+        time.minute(),
+        time.second(),
+        time.frame(),
+        time.subframe(),
+        time.fps().as_int(),
+    ]
 }
 
 // The five bytes of an SMPTE time.
@@ -160,16 +137,8 @@ pub extern "C" fn apk_smpte_encode(
     ensures answer { result ≡ answered (and_then (time_given hour minute second frame subframe rate) (encode_time (from_bits bits))) }
     ensures bytes { bytes.new ≡ leaves (λ (b : List ℕ). b) (and_then (time_given hour minute second frame subframe rate) (encode_time (from_bits bits))) bytes.old }
 {
-    match time_given(hour, minute, second, frame, subframe, rate) {
-        TriedSmpteTime::Refused(refusal) => refusal.number(),
-        TriedSmpteTime::Made(time) => match time.encode(rules(bits)) {
-            EncodedSmpteTime::Refused(refusal) => refusal.number(),
-            EncodedSmpteTime::Bytes(first, minute, second, frame, subframe) => {
-                *bytes = [first, minute, second, frame, subframe];
-                0
-            }
-        },
-    }
+    let time = time_given(hour, minute, second, frame, subframe, rate);
+    told(time.and_then(|time| time.encode(rules(bits))), bytes)
 }
 
 // The seconds of an SMPTE time with its frames and subframes as their fraction, without hours and minutes.
@@ -187,16 +156,8 @@ pub extern "C" fn apk_smpte_second_f32(
     ensures answer { result ≡ answered (and_then (time_given hour minute second frame subframe rate) (seconds_of (from_bits bits))) }
     ensures seconds { seconds.new ≡ leaves (λ (x : Float). x) (and_then (time_given hour minute second frame subframe rate) (seconds_of (from_bits bits))) seconds.old }
 {
-    match time_given(hour, minute, second, frame, subframe, rate) {
-        TriedSmpteTime::Refused(refusal) => refusal.number(),
-        TriedSmpteTime::Made(time) => match time.second_f32(rules(bits)) {
-            AskedSecond::Refused(refusal) => refusal.number(),
-            AskedSecond::Is(found) => {
-                *seconds = found;
-                0
-            }
-        },
-    }
+    let time = time_given(hour, minute, second, frame, subframe, rate);
+    told(time.and_then(|time| time.second_f32(rules(bits))), seconds)
 }
 
 // How many subframes of the day have passed at an SMPTE time.
@@ -214,14 +175,6 @@ pub extern "C" fn apk_smpte_position(
     ensures answer { result ≡ answered (and_then (time_given hour minute second frame subframe rate) (position (from_bits bits))) }
     ensures subframes { subframes.new ≡ leaves (λ (n : ℕ). n) (and_then (time_given hour minute second frame subframe rate) (position (from_bits bits))) subframes.old }
 {
-    match time_given(hour, minute, second, frame, subframe, rate) {
-        TriedSmpteTime::Refused(refusal) => refusal.number(),
-        TriedSmpteTime::Made(time) => match time.position(rules(bits)) {
-            AskedPosition::Refused(refusal) => refusal.number(),
-            AskedPosition::Is(found) => {
-                *subframes = found;
-                0
-            }
-        },
-    }
+    let time = time_given(hour, minute, second, frame, subframe, rate);
+    told(time.and_then(|time| time.position(rules(bits))), subframes)
 }

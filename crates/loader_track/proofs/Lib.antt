@@ -1,3 +1,1 @@
-pub mod Sheets
-pub mod SameAnswers
 pub mod Identical

@@ -1,24 +1,22 @@
 -- What the entries for sameness answer and hand out, in plain numbers.
-use Rattle.std.specs.Prelude.{◌≡◌, Bool, ℕ}
+use Rattle.std.specs.Prelude.{◌≡◌, Bool, ℕ, Result}
 use Rattle.smf.specs.Answer.{pick, Answer, gives, refuses}
-use Rattle.base.specs.Refusal.{number_of}
+use Rattle.base.specs.Said.{said}
+use Rattle.base.specs.declared.Refusal.{Refusal}
 use Rattle.same.specs.Same.{Tells}
-use Rattle.same.specs.declared.of_rows.Sameness.{Sameness}
-use Rattle.same.specs.declared.of_rows.Sameness.TheVariants as sameness
+use Rattle.loader.specs.Entry.{answered, leaves}
 
 -- yes 1, no 0
 abbrev pub yes : Bool → ℕ
 yes told = pick told 1 0
 
 -- what an answer is in plain numbers: 0 where something was told, else the refusal's
-abbrev pub sameness_answered : Sameness → ℕ
-sameness_answered (sameness.Told told) = 0
-sameness_answered (sameness.Refused n) = number_of n
+abbrev pub sameness_answered : Result Bool Refusal → ℕ
+sameness_answered answer = answered (said yes answer)
 
 -- and what it leaves behind the pointer, where this number was before
-abbrev pub sameness_left : Sameness → ℕ → ℕ
-sameness_left (sameness.Told told) before = yes told
-sameness_left (sameness.Refused n) before = before
+abbrev pub sameness_left : Result Bool Refusal → ℕ → ℕ
+sameness_left answer before = leaves (λ (n : ℕ). n) (said yes answer) before
 
 -- a number tells whether a rule holds: 1 where it does, 0 where it does not
 abbrev pub Told : ℕ → Type 0 → Type 0

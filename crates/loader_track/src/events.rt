@@ -8,10 +8,9 @@ ghost use Rattle.rows.specs.One.{read_row};
 ghost use Rattle.loader_track.specs.Events.{read_answered, read_used, read_padding, row_size, row_written};
 
 use base::Running;
-use loader::rules;
+use loader::{rules, told};
 use rows::WIDTH;
-use rows::one::{ReadRow, read_row};
-use write::answer::{EventLength, WroteEvent};
+use rows::one::read_row;
 use write::one::{row_length, write_row};
 
 // The event at a place, from a running status: its row, the bytes used, the running status after it and its padding.
@@ -33,19 +32,19 @@ pub extern "C" fn apk_event_read(
     ensures after { after.new ≡ read_running (event_at (from_bits bits) running bytes.now at) }
     ensures padding { padding.new ≡ read_padding (event_at (from_bits bits) running bytes.now at) }
 {
+    // A refusal tells the same three parts as an event does, so that `told`, which stores of a value alone, does not do.
     match read_row(bytes, at, Running { status: running }, rules(bits), row) {
-        ReadRow::Refused(n) => {
-            let refusal = n.refusal;
-            *used = n.used;
-            *after = n.running.status;
-            *padding = n.padding;
-            refusal.number()
-        }
-        ReadRow::Row(r) => {
-            *used = r.used;
-            *after = r.running.status;
-            *padding = r.padding;
+        Ok(event) => {
+            *used = event.used;
+            *after = event.running.status;
+            *padding = event.padding;
             0
+        }
+        Err(refused) => {
+            *used = refused.used;
+            *after = refused.running.status;
+            *padding = refused.padding;
+            u8::from(refused.refusal)
         }
     }
 }
@@ -64,14 +63,9 @@ pub extern "C" fn apk_event_length(
     ensures length { length.new ≡ leaves (λ (n : Size). n.length) (row_size (from_bits bits) running payload.now row.now) length.old }
     ensures after { after.new ≡ leaves (λ (n : Size). n.running) (row_size (from_bits bits) running payload.now row.now) after.old }
 {
-    match row_length(*row, Running { status: running }, rules(bits), payload) {
-        EventLength::Refused(refusal) => refusal.number(),
-        EventLength::Length(size) => {
-            *length = size.length;
-            *after = size.running.status;
-            0
-        }
-    }
+    let size = row_length(*row, Running { status: running }, rules(bits), payload);
+    told(size.map(|size| size.length), length);
+    told(size.map(|size| size.running.status), after)
 }
 
 // A row's event, put at a place of a lent buffer from a running status: the place after it, and the running status after it.
@@ -92,6 +86,7 @@ pub extern "C" fn apk_event_write(
     ensures next { next.new ≡ leaves (λ (n : ℕ). n) (row_written (from_bits bits) running payload.now row.now out.old at).written.answer next.old }
     ensures after { after.new ≡ (row_written (from_bits bits) running payload.now row.now out.old at).running }
 {
+    // A refusal tells the running status too, so that `told` does not do.
     match write_row(
         *row,
         Running { status: running },
@@ -100,15 +95,14 @@ pub extern "C" fn apk_event_write(
         out,
         at,
     ) {
-        WroteEvent::Refused(n) => {
-            let refusal = n.refusal;
-            *after = n.running.status; // as it was given
-            refusal.number()
-        }
-        WroteEvent::Next(past) => {
+        Ok(past) => {
             *next = past.next;
             *after = past.running.status;
             0
+        }
+        Err(refused) => {
+            *after = refused.running.status; // as it was given
+            u8::from(refused.refusal)
         }
     }
 }

@@ -5,18 +5,19 @@ ghost use Rattle.loader.specs.Entry.{leaves};
 ghost use Rattle.loader_track.specs.Lists.{stop_number, list_given, sheet_put, read_answer};
 
 use base::Running;
-use loader::rules;
-use rows::lists::{ReadRows, read_rows};
+use loader::{rules, told};
+use rows::lists::read_rows;
 use track::cursor::Stop;
 
-// Why reading stopped: 0 at the end, 255 full, else the refusal's number.
+// Why reading stopped: 0 at the end, 255 full, else the refusal's number. A `From` would have to stand beside the type, in a
+// crate that knows no number of C's.
 fn stop_number(stop: Stop) -> u8
     ensures { result ≡ stop_number (stop_of stop) }
 {
     match stop {
         Stop::End => 0,
         Stop::Full => 255,
-        Stop::Refused(refusal) => refusal.number(),
+        Stop::Refused(refusal) => u8::from(refusal),
     }
 }
 
@@ -42,15 +43,10 @@ pub extern "C" fn apk_list_read(
     ensures after { after.new ≡ leaves (λ (n : ℕ). (list_given bits running bytes.now at).running) (sheet_put (list_given bits running bytes.now at) rows.old).answer after.old }
     ensures padding { padding.new ≡ leaves (λ (n : ℕ). (list_given bits running bytes.now at).padding) (sheet_put (list_given bits running bytes.now at) rows.old).answer padding.old }
 {
-    match read_rows(bytes, at, Running { status: running }, rules(bits), rows) {
-        ReadRows::Refused(refusal) => refusal.number(),
-        ReadRows::Rows(read) => {
-            *count = read.count;
-            *place = read.place;
-            *after = read.running.status;
-            *padding = read.padding;
-            let stop = read.stop;
-            stop_number(stop)
-        }
-    }
+    let found = read_rows(bytes, at, Running { status: running }, rules(bits), rows);
+    told(found.map(|list| list.count), count);
+    told(found.map(|list| list.place), place);
+    told(found.map(|list| list.running.status), after);
+    told(found.map(|list| list.padding), padding);
+    found.map_or_else(u8::from, |list| stop_number(list.stop))
 }

@@ -1,12 +1,39 @@
 // The entries that measure and write a list of rows.
 ghost use Rattle.std.specs.Prelude.{◌≡◌};
 ghost use Rattle.loader.specs.Entry.{from_bits};
+ghost use Rattle.write.specs.ListAnswers.{size_said};
 ghost use Rattle.loader_track.specs.Lists.{sheet_size, sheet_written, number_answered, length_left, index_left};
 
 use base::Running;
 use loader::rules;
-use write::answer::{ListLength, WroteList};
+use write::answer::{ListRefused, Size};
 use write::row_lists::{rows_length, write_rows};
+
+// What C is told of a list that was measured or written. A refusal says more than its number, so that `told` does not do.
+fn listed(
+    answer: Result<Size, ListRefused>,
+    length: &mut usize,
+    after: &mut u8,
+    index: &mut usize,
+) -> u8
+    ensures answer { result ≡ number_answered (size_said answer).answer }
+    ensures length { length.new ≡ length_left (size_said answer).answer length.old }
+    ensures after { after.new ≡ (size_said answer).running }
+    ensures index { index.new ≡ index_left (size_said answer).answer index.old }
+{
+    match answer {
+        Ok(size) => {
+            *length = size.length;
+            *after = size.running.status;
+            0
+        }
+        Err(refused) => {
+            *after = refused.running.status;
+            *index = refused.index;
+            u8::from(refused.refusal)
+        }
+    }
+}
 
 // How many bytes the events of so many rows have from a running status, and the running status after them.
 // A refusal leaves the length as it came and the running status as given, and says the index of the first illegal event.
@@ -26,25 +53,14 @@ pub extern "C" fn apk_list_length(
     ensures after { after.new ≡ (sheet_size (from_bits bits) running payload.now rows.now count).running }
     ensures index { index.new ≡ index_left (sheet_size (from_bits bits) running payload.now rows.now count).answer index.old }
 {
-    match rows_length(
+    let measured = rows_length(
         rows,
         count,
         Running { status: running },
         rules(bits),
         payload,
-    ) {
-        ListLength::Refused(n) => {
-            let refusal = n.refusal;
-            *after = n.running.status;
-            *index = n.index;
-            refusal.number()
-        }
-        ListLength::Length(size) => {
-            *length = size.length; // of all the rows
-            *after = size.running.status; // behind all the rows
-            0
-        }
-    }
+    );
+    listed(measured, length, after, index)
 }
 
 // The events of so many rows, put into a lent buffer from its first byte on, from a running status: how many bytes they
@@ -68,24 +84,13 @@ pub extern "C" fn apk_list_write(
     ensures after { after.new ≡ (sheet_written (from_bits bits) running payload.now rows.now count out.old).running }
     ensures index { index.new ≡ index_left (sheet_written (from_bits bits) running payload.now rows.now count out.old).answer index.old }
 {
-    match write_rows(
+    let written = write_rows(
         rows,
         count,
         Running { status: running },
         rules(bits),
         payload,
         out,
-    ) {
-        WroteList::Refused(n) => {
-            let refusal = n.refusal;
-            *after = n.running.status;
-            *index = n.index; // of the first illegal event
-            refusal.number()
-        }
-        WroteList::Length(size) => {
-            *length = size.length;
-            *after = size.running.status; // as the last event leaves it
-            0
-        }
-    }
+    );
+    listed(written, length, after, index)
 }

@@ -7,33 +7,20 @@ ghost use Rattle.track.specs.List.{capacity};
 ghost use Rattle.rows.specs.RowEvent.{called_row};
 ghost use Rattle.rows.specs.RowLists.{called_rows};
 ghost use Rattle.same.specs.OfRows.{rows_asked, lists_asked};
-ghost use Rattle.loader_track.specs.Same.{yes, sameness_answered, sameness_left, Handed};
+ghost use Rattle.loader_track.specs.Same.{sameness_answered, sameness_left, Handed};
 
+use base::Refusal;
+use loader::told;
 use rows::WIDTH;
-use same::of_rows::{Sameness, same_row_lists, same_rows};
+use same::of_rows::{same_row_lists, same_rows};
 
-// Yes 1, no 0.
-fn said(told: bool) -> u8
-    ensures { result ≡ yes told }
-{
-    if told {
-        return 1;
-    }
-    0
-}
-
-// What was told is handed out, and the answer is 0; a refusal is answered, and leaves what was lent as it came.
-fn hand_out(answer: Sameness, same: &mut u8) -> u8
+// What was told is handed out, yes as 1 and no as 0, and the answer is 0; a refusal is answered, and leaves what was lent as
+// it came.
+fn hand_out(answer: Result<bool, Refusal>, same: &mut u8) -> u8
     ensures answer { result ≡ sameness_answered answer }
     ensures same { same.new ≡ sameness_left answer same.old }
 {
-    match answer {
-        Sameness::Told(told) => {
-            *same = said(told);
-            0
-        }
-        Sameness::Refused(refusal) => refusal.number(),
-    }
+    told(answer.map(u8::from), same)
 }
 
 // Whether the events of two rows are the same: 1 the same, 0 not. Refuses 18 where a row is no event's.

@@ -1,21 +1,21 @@
 -- No two meta messages, and no two answers, say the same.
+use Rattle.base.specs.declared.Refusal.{Refusal}
+use Rattle.std.specs.Prelude.{None, Result, Some}
+use Rattle.meta.specs.declared.MetaAt as code
 use mathlib.Core.Path.{◌≡◌, refl, ap}
 use Prim.Native.Nat.{ℕ}
 use lib.Dec.{eqb}
-use Rattle.smf.specs.Answer.{pick, Answer}
+use Rattle.smf.specs.Answer.{pick}
 use Rattle.smf.specs.Place.{Span}
 use Rattle.smf.specs.Kind as kind
 use Rattle.smf.specs.MetaAt.{MetaAt}
-use Rattle.smf.proofs.Answer.{injective, answered}
+use Rattle.smf.proofs.Answer.{injective}
 use Rattle.base.specs.declared.Range.{Range}
-use Rattle.base.proofs.RefusalNumbers.{refusal_of, number_back}
+use Rattle.base.proofs.Said.{said_injective}
 use Rattle.header.proofs.IdenticalTimes.{back_smpte_time, same_smpte_time}
-use Rattle.meta.specs.Meta.{meta_of, meta_read}
-use Rattle.meta.specs.declared.OptionU16.TheVariants as option
+use Rattle.meta.specs.Meta.{meta_of, meta_before, meta_read}
 use Rattle.meta.specs.declared.MetaMessage.{MetaMessage}
 use Rattle.meta.specs.declared.MetaMessage.TheVariants as meta
-use Rattle.meta.specs.declared.ReadMeta.{ReadMeta}
-use Rattle.meta.specs.declared.ReadMeta.TheVariants as read
 
 abbrev pub back_range : Span → Range
 back_range span = record { start = span.start; length = span.length }
@@ -34,8 +34,8 @@ back_text t r =
     (meta.DeviceName r))))))))
 
 pub back_meta : kind.Meta Span → MetaMessage
-back_meta (kind.track_number n) = meta.TrackNumber (option.Some n)
-back_meta kind.no_track_number = meta.TrackNumber option.None
+back_meta (kind.track_number n) = meta.TrackNumber (Some n)
+back_meta kind.no_track_number = meta.TrackNumber None
 back_meta (kind.text t p) = back_text t (back_range p)
 back_meta (kind.midi_channel c) = meta.MidiChannel (record { 0 = c })
 back_meta (kind.midi_port c) = meta.MidiPort (record { 0 = c })
@@ -49,8 +49,8 @@ back_meta (kind.unknown t p) = meta.Unknown t (back_range p)
 
 pub same_meta : (m : MetaMessage) → back_meta (meta_of m) ≡ m
 unfolding back_meta back_text
-same_meta (meta.TrackNumber (option.Some n)) = refl
-same_meta (meta.TrackNumber option.None) = refl
+same_meta (meta.TrackNumber (Some n)) = refl
+same_meta (meta.TrackNumber None) = refl
 same_meta (meta.Text r) = refl
 same_meta (meta.Copyright r) = refl
 same_meta (meta.TrackName r) = refl
@@ -73,13 +73,12 @@ same_meta (meta.Unknown t r) = refl
 pub meta_of_injective : {x y : MetaMessage} → meta_of x ≡ meta_of y → x ≡ y
 meta_of_injective = injective meta_of back_meta same_meta
 
-back_read : Answer MetaAt → ReadMeta
-back_read = answered (λ m. read.Message (record { message = back_meta m.message; next = m.next; padding = m.padding })) (λ n. read.Refused (refusal_of n))
+back_read : MetaAt → code.MetaAt
+back_read m = record { message = back_meta m.message; next = m.next; padding = m.padding }
 
-same_read : (r : ReadMeta) → back_read (meta_read r) ≡ r
+same_read : (m : code.MetaAt) → back_read (meta_before m.message m.next m.padding) ≡ m
 unfolding back_read
-same_read (read.Message m) = ap (λ (x : MetaMessage). read.Message (record { message = x; next = m.next; padding = m.padding })) (same_meta m.message)
-same_read (read.Refused n) = ap read.Refused (number_back n)
+same_read m = ap (λ (x : MetaMessage). record { message = x; next = m.next; padding = m.padding }) (same_meta m.message)
 
-pub meta_read_injective : {x y : ReadMeta} → meta_read x ≡ meta_read y → x ≡ y
-meta_read_injective = injective meta_read back_read same_read
+pub meta_read_injective : {x y : Result code.MetaAt Refusal} → meta_read x ≡ meta_read y → x ≡ y
+meta_read_injective = said_injective (λ m. meta_before m.message m.next m.padding) back_read same_read

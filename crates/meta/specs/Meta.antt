@@ -1,27 +1,25 @@
 -- A meta message as the definitions take it.
-use Rattle.std.specs.Prelude.{ℕ}
-use Rattle.smf.specs.Answer.{Answer, gives, refuses}
+use Rattle.base.specs.declared.Refusal.{Refusal}
+use Rattle.meta.specs.declared.MetaAt as code
+use Rattle.std.specs.Prelude.{ℕ, None, Option, Result, Some}
+use Rattle.smf.specs.Answer.{Answer}
 use Rattle.smf.specs.Place.{Span}
 use Rattle.smf.specs.Kind as kind
 use Rattle.smf.specs.MetaAt.{MetaAt}
-use Rattle.base.specs.Refusal.{number_of}
+use Rattle.base.specs.Said.{said}
 use Rattle.base.specs.declared.Range.{Range}
 use Rattle.header.specs.Smpte.{smpte_time_of}
-use Rattle.meta.specs.declared.OptionU16.{OptionU16}
-use Rattle.meta.specs.declared.OptionU16.TheVariants as option
 use Rattle.meta.specs.declared.MetaMessage.{MetaMessage}
 use Rattle.meta.specs.declared.MetaMessage.TheVariants as meta
-use Rattle.meta.specs.declared.ReadMeta.{ReadMeta}
-use Rattle.meta.specs.declared.ReadMeta.TheVariants as read
 
 -- the range of a payload
 abbrev pub span_of : Range → Span
 span_of r = record { start = r.start; length = r.length }
 
 -- a track number that is there, and one that is missing
-abbrev pub number_meta : OptionU16 → kind.Meta Span
-number_meta (option.Some n) = kind.track_number n
-number_meta option.None = kind.no_track_number
+abbrev pub number_meta : Option ℕ → kind.Meta Span
+number_meta (Some n) = kind.track_number n
+number_meta None = kind.no_track_number
 
 -- the message of each case; the nine text kinds by their type
 abbrev pub meta_of : MetaMessage → kind.Meta Span
@@ -50,6 +48,5 @@ abbrev pub meta_before : MetaMessage → ℕ → ℕ → MetaAt
 meta_before m next padding = record { message = meta_of m; next = next; padding = padding }
 
 -- what `MetaMessage::read` answers
-abbrev pub meta_read : ReadMeta → Answer MetaAt
-meta_read (read.Message m) = gives (meta_before m.message m.next m.padding)
-meta_read (read.Refused n) = refuses (number_of n)
+abbrev pub meta_read : Result code.MetaAt Refusal → Answer MetaAt
+meta_read = said (λ m. meta_before m.message m.next m.padding)

@@ -1,40 +1,31 @@
 // Module 5 of document 01: meta messages, read. A payload is its range of the bytes lent.
 #![tactic(auto)]
 
-ghost use Rattle.std.specs.Prelude.{◌≡◌, ◌+◌, ◌^◌, ◌≤◌, ◌<◌, eqb, length};
-ghost use Rattle.smf.specs.Place.{bytes_of};
-ghost use Rattle.smf.specs.Answer.{pick, gives};
+ghost use Rattle.std.specs.Prelude.{◌≡◌, ◌≤◌, ◌<◌, eqb, Ok};
+ghost use Rattle.smf.specs.Place.{Span};
+ghost use Rattle.smf.specs.Answer.{pick};
+ghost use Rattle.smf.specs.Answer as smf;
 ghost use Rattle.smf.specs.Kind.{track_number_of, midi_channel, midi_port};
 ghost use Rattle.smf.specs.Kind as kind;
 ghost use Rattle.smf.specs.Event.{map_meta};
 ghost use Rattle.smf.specs.MetaAt.{meta_at};
-ghost use Rattle.smf.proofs.MetaAt.{called_at};
 ghost use Rattle.base.specs.Rules.{rules_of};
-ghost use Rattle.number.specs.Payload.{payload_of};
-ghost use Rattle.meta.specs.Meta.{span_of, number_meta, meta_of, meta_before, meta_read};
+ghost use Rattle.base.specs.Said.{said};
+ghost use Rattle.meta.specs.Meta.{span_of, number_meta, meta_of, meta_read};
+ghost use Rattle.meta.specs.Named.{found, called};
 ghost use Rattle.meta.specs.Narrow.{Narrow};
 
 use base::{Range, Refusal, Rules, u4, u7, u24};
 use header::SmpteTime;
 use header::field::word;
 use header::signed::from_byte;
-use header::smpte::TriedSmpteTime;
-use number::payload::{Payload, ReadSlice, read_varlen_slice};
-
-// A track number that may be missing: the Rust's `Option<u16>`.
-#[derive(Clone, Copy)]
-pub enum OptionU16 {
-    // the message has two bytes or more
-    Some(u16),
-    // it has fewer, and the track's own place in the file is meant
-    None,
-}
+use number::payload::{Payload, read_varlen_slice};
 
 // What a track says beside the music. Text is a payload of any bytes.
 #[derive(Clone, Copy)]
 pub enum MetaMessage {
     // 00: the number of a sequence
-    TrackNumber(OptionU16),
+    TrackNumber(Option<u16>),
     // 01: any text
     Text(Range),
     // 02: a copyright notice
@@ -84,38 +75,13 @@ pub struct MetaAt {
     pub padding: usize,
 }
 
-// What reading a meta message answers.
-#[derive(Clone, Copy)]
-pub enum ReadMeta {
-    // a message, and where it ends
-    Message(MetaAt),
-    // 10 to 14, or 2 or 3 of its payload's number
-    Refused(Refusal),
-}
-
-// The answer for a message of a payload that was just read: it ends where the payload ends.
-fn message(message: MetaMessage, load: Payload) -> ReadMeta
-    requires { load.range.start + load.range.length < 2 ^ 64 }
-    ensures { meta_read result ≡ gives (meta_before message (load.range.start + load.range.length) load.padding) }
-{
-    let next = load.range.start + load.range.length;
-    ReadMeta::Message(MetaAt {
-        message,
-        next,
-        padding: load.padding,
-    })
-}
-
 // 00, a track number: the first two bytes of the payload, or missing where there are fewer.
-fn track_number(raw: &[u8], load: Payload) -> OptionU16
-    requires { load.range.start + load.range.length ≤ length raw.now }
-    ensures { number_meta result ≡ map_meta (λ p. span_of load.range) (track_number_of (bytes_of raw.now (span_of load.range))) }
+fn track_number(bytes: &[u8]) -> Option<u16>
+    ensures { (span : Span) → number_meta result ≡ map_meta (λ p. span) (track_number_of bytes.now) }
 {
-    let start = load.range.start;
-    if 2 <= load.range.length {
-        OptionU16::Some(word(raw[start], raw[start + 1]))
-    } else {
-        OptionU16::None
+    match bytes {
+        [high, low, ..] => Some(word(*high, *low)),
+        _ => None,
     }
 }
 
@@ -129,101 +95,74 @@ fn narrow_kind(type_byte: u8, byte: u8) -> MetaMessage
     MetaMessage::MidiPort(u7(byte))
 }
 
-// 20 and 21, a channel and a port: the first byte of the payload. One that is not below the limit is refused by 12, or
-// leniently keeps its low bits.
-fn narrow(type_byte: u8, limit: u8, raw: &[u8], load: Payload, rules: Rules) -> ReadMeta
-    requires { (load.range.start + load.range.length ≤ length raw.now) × Narrow type_byte limit }
-    ensures { meta_read result ≡ called_at (rules_of rules) raw.now type_byte (payload_of load) }
+// 20 and 21, a channel and a port: the first byte of the payload, or nothing where there is none. One that is not below
+// the limit is refused by 12, or leniently keeps its low bits.
+fn narrow(
+    type_byte: u8,
+    limit: u8,
+    bytes: &[u8],
+    rules: Rules,
+) -> Result<Option<MetaMessage>, Refusal>
+    requires { Narrow type_byte limit }
+    ensures { (load : Span) → found type_byte load result ≡ called (rules_of rules) type_byte bytes.now load }
 {
-    let range = load.range;
-    let start = range.start;
-    if range.length < 1 {
-        return message(MetaMessage::Unknown(type_byte, range), load);
-    }
-    let byte = raw[start];
-    if byte < limit {
-        return message(narrow_kind(type_byte, byte), load);
+    let [byte, ..] = bytes else {
+        return Ok(None);
+    };
+    if *byte < limit {
+        return Ok(Some(narrow_kind(type_byte, *byte)));
     }
     if rules.strict {
-        return ReadMeta::Refused(Refusal::ChannelOrPort);
+        return Err(Refusal::ChannelOrPort);
     }
-    message(narrow_kind(type_byte, byte % limit), load)
+    Ok(Some(narrow_kind(type_byte, *byte % limit)))
 }
 
 // 51, a tempo: three bytes, the highest first.
-fn tempo(raw: &[u8], load: Payload, rules: Rules) -> ReadMeta
-    requires { load.range.start + load.range.length ≤ length raw.now }
-    ensures { meta_read result ≡ called_at (rules_of rules) raw.now 0x51 (payload_of load) }
+fn tempo(bytes: &[u8]) -> Option<MetaMessage>
+    ensures { (rules : smf.Rules) (load : Span) → found 0x51 load (Ok result) ≡ called rules 0x51 bytes.now load }
 {
-    let range = load.range;
-    let start = range.start;
-    if range.length < 3 {
-        return message(MetaMessage::Unknown(0x51, range), load);
-    }
-    let high = raw[start] as u32;
-    let low = word(raw[start + 1], raw[start + 2]) as u32;
-    message(MetaMessage::Tempo(u24(high * 65536 + low)), load)
+    let [high, middle, low, ..] = bytes else {
+        return None;
+    };
+    let below = u32::from(word(*middle, *low));
+    Some(MetaMessage::Tempo(u24(u32::from(*high) * 65536 + below)))
 }
 
 // 54, an SMPTE time of five bytes; 13 where it is outside its ranges.
-fn smpte_offset(raw: &[u8], load: Payload, rules: Rules) -> ReadMeta
-    requires { load.range.start + load.range.length ≤ length raw.now }
-    ensures { meta_read result ≡ called_at (rules_of rules) raw.now 0x54 (payload_of load) }
+fn smpte_offset(bytes: &[u8], rules: Rules) -> Result<Option<MetaMessage>, Refusal>
+    ensures { (load : Span) → found 0x54 load result ≡ called (rules_of rules) 0x54 bytes.now load }
 {
-    let range = load.range;
-    let start = range.start;
-    if range.length < 5 {
-        return message(MetaMessage::Unknown(0x54, range), load);
-    }
-    let bytes = [
-        raw[start],
-        raw[start + 1],
-        raw[start + 2],
-        raw[start + 3],
-        raw[start + 4],
-    ];
-    match SmpteTime::read(bytes, rules) {
-        TriedSmpteTime::Made(time) => message(MetaMessage::SmpteOffset(time), load),
-        TriedSmpteTime::Refused(refusal) => ReadMeta::Refused(refusal),
-    }
+    let [hour, minute, second, frame, subframe, ..] = bytes else {
+        return Ok(None);
+    };
+    let time = SmpteTime::read([*hour, *minute, *second, *frame, *subframe], rules)?;
+    Ok(Some(MetaMessage::SmpteOffset(time)))
 }
 
 // 58, a time signature of four bytes, which may be any.
-fn time_signature(raw: &[u8], load: Payload, rules: Rules) -> ReadMeta
-    requires { load.range.start + load.range.length ≤ length raw.now }
-    ensures { meta_read result ≡ called_at (rules_of rules) raw.now 0x58 (payload_of load) }
+fn time_signature(bytes: &[u8]) -> Option<MetaMessage>
+    ensures { (rules : smf.Rules) (load : Span) → found 0x58 load (Ok result) ≡ called rules 0x58 bytes.now load }
 {
-    let range = load.range;
-    let start = range.start;
-    if range.length < 4 {
-        return message(MetaMessage::Unknown(0x58, range), load);
+    match bytes {
+        [a, b, c, d, ..] => Some(MetaMessage::TimeSignature(*a, *b, *c, *d)),
+        _ => None,
     }
-    let signature = MetaMessage::TimeSignature(
-        raw[start],
-        raw[start + 1],
-        raw[start + 2],
-        raw[start + 3],
-    );
-    message(signature, load)
 }
 
 // 59, a key signature: refused by 14 where it is short, and not made `Unknown` as its neighbours are, since the Rust
 // does so.
-fn key_signature(raw: &[u8], load: Payload, rules: Rules) -> ReadMeta
-    requires { load.range.start + load.range.length ≤ length raw.now }
-    ensures { meta_read result ≡ called_at (rules_of rules) raw.now 0x59 (payload_of load) }
+fn key_signature(bytes: &[u8]) -> Result<MetaMessage, Refusal>
+    ensures { (rules : smf.Rules) (load : Span) → said meta_of result ≡ called rules 0x59 bytes.now load }
 {
-    let range = load.range;
-    let start = range.start;
-    if range.length < 2 {
-        return ReadMeta::Refused(Refusal::KeySignatureShort);
-    }
-    let sharps = from_byte(raw[start]);
-    let minor = raw[start + 1] != 0;
-    message(MetaMessage::KeySignature(sharps, minor), load)
+    let [sharps, minor, ..] = bytes else {
+        return Err(Refusal::KeySignatureShort);
+    };
+    Ok(MetaMessage::KeySignature(from_byte(*sharps), *minor != 0))
 }
 
-// 01 to 09, the text kinds, each of which holds its payload as it is.
+// 01 to 09, the text kinds, each of which holds its payload as it is. The rows make them of 0x101 to 0x109 in a function of
+// their own: one for both would be public, so that it might demand nothing and would have to refuse every other type.
 fn text(type_byte: u8, load: Range) -> MetaMessage
     requires { (1 ≤ type_byte) × (type_byte < 10) }
     ensures { meta_of result ≡ kind.text type_byte (span_of load) }
@@ -241,43 +180,43 @@ fn text(type_byte: u8, load: Range) -> MetaMessage
     }
 }
 
-// The message of a type and a payload. The payload is whole before 12, 13 or 14 is asked of it.
-fn named(type_byte: u8, raw: &[u8], load: Payload, rules: Rules) -> ReadMeta
-    requires { load.range.start + load.range.length ≤ length raw.now }
-    ensures { meta_read result ≡ called_at (rules_of rules) raw.now type_byte (payload_of load) }
+// The message of a type and a payload, its bytes and where they stand. The payload is whole before 12, 13 or 14 is asked
+// of it; one that is too short for its type is `Unknown`.
+fn named(type_byte: u8, bytes: &[u8], load: Range, rules: Rules) -> Result<MetaMessage, Refusal>
+    ensures { said meta_of result ≡ called (rules_of rules) type_byte bytes.now (span_of load) }
 {
-    let range = load.range;
-    if type_byte == 0x00 {
-        return message(MetaMessage::TrackNumber(track_number(raw, load)), load);
-    }
-    if type_byte < 0x0A {
-        return message(text(type_byte, range), load);
-    }
+    let unknown = MetaMessage::Unknown(type_byte, load);
     match type_byte {
-        0x20 => narrow(0x20, 16, raw, load, rules),
-        0x21 => narrow(0x21, 128, raw, load, rules),
-        0x2F => message(MetaMessage::EndOfTrack, load),
-        0x51 => tempo(raw, load, rules),
-        0x54 => smpte_offset(raw, load, rules),
-        0x58 => time_signature(raw, load, rules),
-        0x59 => key_signature(raw, load, rules),
-        0x7F => message(MetaMessage::SequencerSpecific(range), load),
-        _ => message(MetaMessage::Unknown(type_byte, range), load),
+        0x00 => Ok(MetaMessage::TrackNumber(track_number(bytes))),
+        0x01..=0x09 => Ok(text(type_byte, load)),
+        0x20 => Ok(narrow(0x20, 16, bytes, rules)?.unwrap_or(unknown)),
+        0x21 => Ok(narrow(0x21, 128, bytes, rules)?.unwrap_or(unknown)),
+        0x2F => Ok(MetaMessage::EndOfTrack),
+        0x51 => Ok(tempo(bytes).unwrap_or(unknown)),
+        0x54 => Ok(smpte_offset(bytes, rules)?.unwrap_or(unknown)),
+        0x58 => Ok(time_signature(bytes).unwrap_or(unknown)),
+        0x59 => key_signature(bytes),
+        0x7F => Ok(MetaMessage::SequencerSpecific(load)),
+        _ => Ok(unknown),
     }
 }
 
 impl MetaMessage {
     // Reads the meta message at a place, from its type byte on, which stands behind FF.
-    pub fn read(raw: &[u8], at: usize, rules: Rules) -> ReadMeta
+    pub fn read(raw: &[u8], at: usize, rules: Rules) -> Result<MetaAt, Refusal>
         ensures { meta_read result ≡ meta_at (rules_of rules) raw.now at }
     {
-        if raw.len() <= at {
-            return ReadMeta::Refused(Refusal::NoMetaType);
-        }
-        let type_byte = raw[at];
-        match read_varlen_slice(raw, at + 1, rules) {
-            ReadSlice::Refused(refusal) => ReadMeta::Refused(refusal),
-            ReadSlice::Slice(load) => named(type_byte, raw, load, rules),
-        }
+        let Some(type_byte) = raw.get(at) else {
+            return Err(Refusal::NoMetaType);
+        };
+        let load = read_varlen_slice(raw, at + 1, rules)?;
+        let range = load.range;
+        let next = range.start + range.length;
+        let message = named(*type_byte, &raw[range.start..next], range, rules)?;
+        Ok(MetaAt {
+            message,
+            next,
+            padding: load.padding,
+        })
     }
 }

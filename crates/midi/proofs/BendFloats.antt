@@ -1,16 +1,19 @@
 -- What `from_f32` and `from_f64`, and `as_f32` and `as_f64`, have in common: laws over the float's format.
 -- `to_z w (of_z w z)` is the signed integer z as a machine of w bits holds it.
-use Rattle.std.proofs.Common.{◌≡◌, ℕ, true, ℤ, sym, ap, ◌∙◌, subst, arith, to_z-of_z, w16, w64, SFits, to_z, of_z}
+use Rattle.std.specs.Prelude.{Err, Ok, Result}
+use Rattle.std.proofs.Common.{◌≡◌, ℕ, true, false, ℤ, pos, sym, ap, ◌∙◌, subst, arith, to_z-of_z, w16, w64, SFits, to_z, of_z}
 use lib.Ieee.{Float, Format, mul, of_int, fits, to_signed}
 use Rattle.base.specs.Refusal.{number_of}
 use Rattle.base.specs.declared.Refusal.{Refusal}
 use Rattle.smf.specs.Answer.{Answer, gives, refuses}
+use Rattle.smf.proofs.Answer.{by_test}
 use Rattle.smf.specs.Bend.{scaled, ask_bend, ask_float, GivesQuotient}
 use Rattle.smf.proofs.BendFloat.{Cut, scale, step, clamped_product}
 use Rattle.smf.proofs.Bend.{asked_mag, ask_float_lem, ask_float_out, ask_exact}
-use Rattle.midi.specs.Bend.{bend_int, clamped_float}
-use Rattle.midi.specs.declared.bend.BendInt.{BendInt}
-use Rattle.midi.specs.declared.bend.BendInt.TheVariants as int
+use Rattle.std.specs.Float.{fin}
+use Rattle.std.specs.Float.Ieee.{lt, eq}
+use Rattle.std.specs.Ordering.{float_partial_cmp, partial_lt}
+use Rattle.midi.specs.Bend.{bend_int, between, clamped_float}
 
 -- the clamped float y of x, times 8,192
 pub product : (f : Format) (x : Float) {y : Float} → fits f x ≡ true → y ≡ clamped_float x → Cut (mul f y scale) (scaled x)
@@ -36,14 +39,23 @@ exactly : (f : Format) (raw : ℕ) {a : Answer Float} → a ≡ ask_float f raw 
 exactly f raw e = (e, subst (GivesQuotient raw) (sym e) (ask_exact f raw))
 
 -- the bend z that `as_int` gave, as a float, times 1 / 8,192
-module _ (f : Format) (raw : ℕ) {r : BendInt} (a : bend_int r ≡ ask_bend raw) where
-  pub given : {z : ℤ} → r ≡ int.Value z
+module _ (f : Format) (raw : ℕ) {r : Result ℤ Refusal} (a : bend_int r ≡ ask_bend raw) where
+  pub given : {z : ℤ} → r ≡ Ok z
       → let x = gives (mul f (of_int f (to_z w16 (of_z w16 z))) step) in (x ≡ ask_float f raw) × GivesQuotient raw x
   given {z} v =
       let g : gives z ≡ ask_bend raw = ap bend_int (sym v) ∙ a in
       exactly f raw (rw (to_z-of_z {w = w16} {z = z} (record { sfits = omega (arith, asked_mag raw z g) })) (ask_float_lem f raw z g))
 
   -- its refusal
-  pub refused : {n : Refusal} → r ≡ int.Refused n
+  pub refused : {n : Refusal} → r ≡ Err n
       → (refuses (number_of n) ≡ ask_float f raw) × GivesQuotient raw (refuses (number_of n))
   refused {n} v = exactly f raw (ask_float_out f raw (number_of n) (ap bend_int (sym v) ∙ a))
+
+-- a clamp by the order of floats is the clamp of a float
+lt_is : (x y : Float) → partial_lt float_partial_cmp x y ≡ lt x y
+lt_is x y =
+    by_test (lt x y) (λ less. rw less)
+    (λ not. rw not (by_test (eq x y) (λ same. rw same) (λ other. rw other (by_test (lt y x) (λ more. rw more) (λ none. rw none)))))
+
+pub floated : (x : Float) {y : Float} → y ≡ between float_partial_cmp x (fin true 1 (pos 0)) (fin false 1 (pos 0)) → y ≡ clamped_float x
+floated x e = e ∙ rw (lt_is (fin true 1 (pos 0)) x, lt_is x (fin false 1 (pos 0)))

@@ -11,11 +11,11 @@ use crate::lengths::LENGTH_BY_STATUS;
 use base::{u7, u14};
 
 // How far notes are bent, as a file has it, the raw bend: 0x2000 is no bend.
-#[derive(Clone, Copy)]
+#[derive(Clone, Copy, Debug, PartialEq, Eq)]
 pub struct PitchBend(pub u14);
 
 // What a channel is told. The channel stands in the event's kind.
-#[derive(Clone, Copy)]
+#[derive(Clone, Copy, Debug, PartialEq, Eq)]
 pub enum MidiMessage {
     // 8: stop a note, with the speed at which its key is let go
     NoteOff { key: u7, vel: u7 },

@@ -69,15 +69,15 @@ module _ {s : List ℕ} {v at p high : ℕ} {out : List ℕ} (w : Putting s v at
 
 -- the last byte is put first: from there on the buffer counts as it then is
 abbrev pub last_put : List ℕ → ℕ → ℕ → List ℕ
-last_put s v at = set s (at + length (encode_number v) - 1) (v % 128)
+last_put s v end = set s (end - 1) (v % 128)
 
-module _ (s : List ℕ) (v at : ℕ) (h : at + length (encode_number v) ≤ length s) where
-  pub put_begun : v < 2 ^ 28 → Putting (last_put s v at) v at (at + length (encode_number v) - 1) (v / 128) (last_put s v at)
+module _ (s : List ℕ) (v at end : ℕ) (q : at + length (encode_number v) ≡ end) (h : end ≤ length s) where
+  pub put_begun : v < 2 ^ 28 → Putting (last_put s v end) v at (end - 1) (v / 128) (last_put s v end)
   unfolding encode_number
   put_begun f =
       let l = encode_length v in
-      let q : at + length (encode_number v) - 1 < length s = omega arith in
-      let e : length (last_put s v at) ≡ length s = length-set s _ _ in
+      let p : end - 1 < length s = omega arith in
+      let e : length (last_put s v end) ≡ length s = length-set s _ _ in
       record {
         k = 3;
         bs = (v % 128) ∷ [];
@@ -86,12 +86,12 @@ module _ (s : List ℕ) (v at : ℕ) (h : at + length (encode_number v) ≤ leng
         here = omega arith;
         whole = refl;
         list =
-            split_at (last_put s v at) (at + length (encode_number v) - 1) 0 (omega arith)
-            ∙ rw (get_or-set_same s (at + length (encode_number v) - 1) (v % 128) 0 q, add-one (at + length (encode_number v) - 1));
+            split_at (last_put s v end) (end - 1) 0 (omega arith)
+            ∙ rw (get_or-set_same s (end - 1) (v % 128) 0 p, add-one (end - 1));
       }
 
-  pub put_ended : {p high : ℕ} {out : List ℕ} → Putting (last_put s v at) v at p high out → high ≡ 0 → out ≡ over (encode_number v) s at
+  pub put_ended : {p high : ℕ} {out : List ℕ} → Putting (last_put s v end) v at p high out → high ≡ 0 → out ≡ over (encode_number v) s at
   put_ended w z =
       let l = encode_length v in
       put_done w z
-      ∙ rw (take-set-le at s (at + length (encode_number v) - 1) (v % 128) (omega arith), drop-set-lt (at + length (encode_number v)) s (at + length (encode_number v) - 1) (v % 128) (omega arith))
+      ∙ rw (take-set-le at s (end - 1) (v % 128) (omega arith), drop-set-lt (at + length (encode_number v)) s (end - 1) (v % 128) (omega arith))

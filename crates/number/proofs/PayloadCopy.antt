@@ -1,10 +1,16 @@
--- A copy of a list's first elements is a write of them.
-use mathlib.Core.Path.{◌≡◌, ◌∙◌}
-use mathlib.Core.List.{List, append_assoc}
-use Prim.Native.Nat.{ℕ, ◌+◌, ◌≤◌}
+-- A copy of some bytes over a part of a buffer is a write of them.
+use mathlib.Core.Path.{◌≡◌}
+use mathlib.Core.List.{List, ◌++◌}
+use Prim.Native.Nat.{ℕ}
 use lib.ListN.{length, take, drop}
-use lib.Seq.{paste, length-take-le}
-use Rattle.smf.specs.Write.{over}
+use Rattle.std.proofs.Common.{rules}
+use Rattle.std.proofs.lemmas.Grind.{common_steps}
+use Rattle.smf.specs.Answer.{gives}
+use Rattle.smf.specs.Write.{Written, over}
 
-pub pasted : (d : List ℕ) (at : ℕ) (s : List ℕ) (n : ℕ) → n ≤ length s → paste d at s n ≡ over (take n s) d at
-pasted d at s n h = append_assoc (take at d) (take n s) (drop (at + n) d) ∙ rw (length-take-le n s h)
+pub copied : (d ys s : List ℕ) (at k : ℕ) → ys ≡ s → k ≡ length s → take at d ++ (ys ++ drop k (drop at d)) ≡ over s d at
+copied d ys s at k same long = rw (same, long) (search (rules, common_steps))
+
+-- what was written, and the place behind it
+pub ended : {b c : List ℕ} {n m : ℕ} {w : Written} → b ≡ c → n ≡ m → record { buffer = c; answer = gives m } ≡ w → record { buffer = b; answer = gives n } ≡ w
+ended p q e = rw (p, q) e

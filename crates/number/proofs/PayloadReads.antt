@@ -1,4 +1,5 @@
 -- What a payload's reader answers, by what the reader of its number answered.
+use Rattle.std.specs.Prelude.{Err, Ok, Result}
 use mathlib.Core.Path.{◌≡◌, sym, ap, ◌∙◌}
 use mathlib.Core.Bool.{true, false}
 use mathlib.Core.List.{List}
@@ -12,14 +13,12 @@ use Rattle.base.specs.Refusal.{number_of}
 use Rattle.number.specs.Varlen.{number_read_of}
 use Rattle.base.specs.declared.Refusal.{Refusal}
 use Rattle.number.specs.declared.varlen.NumberAt.{NumberAt}
-use Rattle.number.specs.declared.varlen.ReadNumber.{ReadNumber}
-use Rattle.number.specs.declared.varlen.ReadNumber.TheVariants.{Number, Refused}
 
-module _ (rules : Rules) (s : List ℕ) (at : ℕ) {r : ReadNumber} (read : number_read_of r ≡ number_at rules s at) where
-  pub slice_refused : {n : Refusal} → r ≡ Refused n → refuses (number_of n) ≡ payload_at rules s at
+module _ (rules : Rules) (s : List ℕ) (at : ℕ) {r : Result NumberAt Refusal} (read : number_read_of r ≡ number_at rules s at) where
+  pub slice_refused : {n : Refusal} → r ≡ Err n → refuses (number_of n) ≡ payload_at rules s at
   slice_refused e = sym (payload_refused rules s at (sym read ∙ ap number_read_of e))
 
-  module _ {n : NumberAt} (e : r ≡ Number n) where
+  module _ {n : NumberAt} (e : r ≡ Ok n) where
     pub slice_whole : {left : ℕ} → left ≡ length s - n.next → n.value.0 ≤ left → gives (record { span = record { start = n.next; length = n.value.0 }; padding = n.padding }) ≡ payload_at rules s at
     slice_whole count h = sym (payload_whole rules s at _ (sym read ∙ ap number_read_of e) (omega arith))
 

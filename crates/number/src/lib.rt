@@ -2,8 +2,9 @@
 #![tactic(auto)]
 
 pub mod payload;
+mod room;
 pub mod varlen;
 
 // A number of 28 bits, as a variable-length number of four bytes holds it: a tick count, a length.
-#[derive(Clone, Copy)]
+#[derive(Clone, Copy, Debug, PartialEq, Eq)]
 pub struct u28(pub u32);

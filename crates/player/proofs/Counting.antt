@@ -1,18 +1,16 @@
 -- How many entries sound, counted one by one.
 use mathlib.Core.Path.{◌≡◌, sym, ap, ◌∙◌}
 use mathlib.Core.Bool.{true, false, not}
-use mathlib.Core.List.{List, [], ◌∷◌, map}
+use mathlib.Core.List.{List, ◌∷◌}
 use Prim.Native.Nat.{ℕ, ◌+◌, ◌≤◌, ◌<◌}
 use native.Mathlib.Numerals.{add-one}
 use native.Mathlib.Omega.{arith}
 use borrow.Author.Tests.{eq-eqb, ne_eqb, eqb-true, eqb-false, not-true, not-false}
 use lib.Dec.{eqb}
-use lib.ListN.{length, get_or, drop, drop_of_length-le, length-map, get_or-map}
-use lib.Seq.{drop-cons, ext_get_or}
+use lib.ListN.{length, get_or, drop, drop_of_length-le}
+use lib.Seq.{drop-cons}
 use Rattle.smf.specs.Answer.{pick}
-use Rattle.player.specs.Table.{channels, Table, numbers_from}
-use Rattle.player.specs.Sounding.{sounding_count, counts}
-use Rattle.player.proofs.Tables.{Shaped, length_mapped, mapped_at}
+use Rattle.player.specs.Sounding.{sounding_count}
 
 -- what the test of an entry tells
 pub is_sounding : (v : ℕ) → not (eqb v 0) ≡ true → v ≡ 0 → ⊥
@@ -27,9 +25,6 @@ module _ (vs : List ℕ) where
     pub within : key ≤ length vs
     pub few : n ≤ key
     pub left : n + sounding_count (drop key vs) ≡ sounding_count vs
-
-  pub counted_first : Counted 0 0
-  counted_first = record { within = omega arith; few = omega arith; left = omega arith }
 
   module _ {n key : ℕ} (c : Counted n key) where
     pub counted_all : length vs ≤ key → n ≡ sounding_count vs
@@ -48,11 +43,3 @@ module _ (vs : List ℕ) where
       pub counted_sounding : (get_or vs key 0 ≡ 0 → ⊥) → Counted (n + 1) (key + 1)
       counted_sounding sounds =
           record { within = omega arith; few = omega (arith, c.few); left = omega (arith, c.left, rw (ne_eqb (get_or vs key 0) 0 sounds) at ahead) }
-
--- the counts of a table, channel by channel
-pub counts_stored : {t : Table} → Shaped t → map (λ (c : ℕ). sounding_count (get_or t c [])) (numbers_from 0 channels) ≡ counts t
-unfolding counts
-counts_stored {t} h =
-    let rule : ℕ → ℕ = λ (c : ℕ). sounding_count (get_or t c []) in
-    ext_get_or (sounding_count []) (map rule (numbers_from 0 channels)) (map sounding_count t) (length_mapped rule channels ∙ sym (length-map t sounding_count ∙ h.rows))
-    (λ c less. mapped_at rule channels c (sounding_count []) (omega (arith, length_mapped rule channels)) ∙ sym (get_or-map sounding_count t c []))

@@ -4,15 +4,19 @@ use mathlib.Core.List.{List}
 use Prim.Native.Nat.{ℕ, ◌+◌, ◌*◌, ◌≤◌, ◌<◌}
 use native.Mathlib.Numerals.{add-one}
 use native.Mathlib.Omega.{arith}
+use borrow.Rule.Slice.PartMut.{put_mid}
 use lib.ListN.{length, get_or, take}
-use lib.Seq.{take-suc, length-take-le}
+use lib.Seq.{drop-drop, take-suc, length-take-le}
 use Rattle.smf.specs.Place.{Span}
 use Rattle.smf.specs.Event.{Event}
 use Rattle.smf.specs.Write.{over}
-use Rattle.smf.proofs.Write.{length_over}
 use Rattle.rows.specs.Rows.{width, event_row}
 use Rattle.rows.specs.Sheet.{sheet_of}
-use Rattle.rows.proofs.RowCells.{sheet_length, sheet_over}
+use Rattle.rows.proofs.RowCells.{sheet_over}
+
+-- a row copied into its part of the cells
+pub laid_row : (rows : List ℕ) (index n : ℕ) (row now : List ℕ) → now ≡ row → n ≡ length row → put_mid (index * width) n rows now ≡ over row rows (index * width)
+laid_row rows index n row now is long = rw (is, long, drop-drop (length row) (index * width) rows)
 
 module _ (es : List (Event Span)) (count : ℕ) (cells : List ℕ) (there : count ≤ length es) (room : count * width ≤ length cells) where
   pub record LaidRows (rows : List ℕ) (index : ℕ) : Type 0 where
@@ -26,9 +30,6 @@ module _ (es : List (Event Span)) (count : ℕ) (cells : List ℕ) (there : coun
   module _ {rows : List ℕ} {index : ℕ} (l : LaidRows rows index) where
     own : length (take index es) ≡ index
     own = length-take-le index es (omega (arith, l.passed))
-
-    pub rows_length : length rows ≡ length cells
-    rows_length = ap length l.rows_are ∙ length_over (sheet_of (take index es)) cells 0 (omega (arith, sheet_length (take index es), own, l.passed))
 
     pub rows_next : index < count → (d : Event Span) (end : List ℕ) → end ≡ over (event_row (get_or es index d)) rows (index * width) → LaidRows end (index + 1)
     rows_next more d end put =

@@ -6,6 +6,7 @@ pub mod Others
 pub mod WidthsLegal
 pub mod Counting
 pub mod Sums
+pub mod Listed
 pub mod Steps
 pub mod Answered
 pub mod Stored
@@ -16,4 +17,5 @@ pub mod Silencing
 pub mod Order
 pub mod Laying
 pub mod Taking
+pub mod Nought
 pub mod Entered

@@ -1,4 +1,5 @@
 -- What an arm that takes every other case of an enum knows: it is none of those that an arm before it takes.
+use Rattle.std.specs.Prelude.{None, Some}
 use mathlib.Core.Path.{◌≡◌, refl}
 use mathlib.Core.Bool.{true}
 use Prim.Native.Nat.{ℕ}
@@ -11,7 +12,6 @@ use Rattle.midi.specs.declared.MidiMessage.TheVariants as midi
 use Rattle.meta.specs.Meta.{meta_of}
 use Rattle.meta.specs.declared.MetaMessage.{MetaMessage}
 use Rattle.meta.specs.declared.MetaMessage.TheVariants as meta
-use Rattle.meta.specs.declared.OptionU16.TheVariants as option
 use Rattle.event.specs.Event.{kind_of}
 use Rattle.event.specs.declared.TrackEventKind.{TrackEventKind}
 use Rattle.event.specs.declared.TrackEventKind.TheVariants as track
@@ -40,8 +40,8 @@ no_message (track.Meta m) h = refl
 -- the meta messages but a channel, a port and a tempo
 pub unrestricted : (m : MetaMessage) → ((c : u4) → m ≡ meta.MidiChannel c → ⊥) → ((c : u7) → m ≡ meta.MidiPort c → ⊥) → ((v : u24) → m ≡ meta.Tempo v → ⊥) → true ≡ meta_within (meta_of m)
 unfolding meta_within
-unrestricted (meta.TrackNumber (option.Some n)) h p q = refl
-unrestricted (meta.TrackNumber option.None) h p q = refl
+unrestricted (meta.TrackNumber (Some n)) h p q = refl
+unrestricted (meta.TrackNumber None) h p q = refl
 unrestricted (meta.Text r) h p q = refl
 unrestricted (meta.Copyright r) h p q = refl
 unrestricted (meta.TrackName r) h p q = refl

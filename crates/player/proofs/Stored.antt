@@ -1,11 +1,10 @@
 -- What a loop keeps that stores the values of a rule one by one: those below the index are there.
 use mathlib.Core.Path.{◌≡◌, sym, ◌∙◌}
 use mathlib.Core.List.{List, map}
-use Prim.Native.Nat.{ℕ, ◌+◌, ◌≤◌, ◌<◌}
+use Prim.Native.Nat.{ℕ, ◌≤◌, ◌<◌}
 use native.Mathlib.Omega.{arith}
-use borrow.Author.Count.{below_none, below_more}
-use lib.ListN.{length, get_or, set, replicate, length-set, length-replicate}
-use lib.Seq.{ext_get_or, get_or-set_same, get_or-set_other}
+use lib.ListN.{length, get_or}
+use lib.Seq.{ext_get_or}
 use Rattle.player.specs.Table.{numbers_from}
 use Rattle.player.proofs.Tables.{length_mapped, mapped_at}
 
@@ -15,18 +14,7 @@ module _ (rule : ℕ → ℕ) (n : ℕ) where
     pub long : length xs ≡ n
     pub there : (k : ℕ) → k < i → get_or xs k 0 ≡ rule k
 
-  pub stored_first : Stored (replicate n 0) 0
-  stored_first = record { within = omega arith; long = length-replicate n 0; there = below_none _ }
-
   module _ {xs : List ℕ} {i : ℕ} (s : Stored xs i) where
-    pub stored_more : i < n → (v : ℕ) → v ≡ rule i → Stored (set xs i v) (i + 1)
-    stored_more more v is =
-        record {
-          within = omega arith;
-          long = length-set xs i v ∙ s.long;
-          there = below_more _ i (λ k h. get_or-set_other xs i k v 0 (λ (e : k ≡ i). omega arith) ∙ s.there k h) (get_or-set_same xs i v 0 (rw s.long more) ∙ is);
-        }
-
     pub stored_all : n ≤ i → xs ≡ map rule (numbers_from 0 n)
     stored_all last =
         ext_get_or 0 xs (map rule (numbers_from 0 n)) (s.long ∙ sym (length_mapped rule n))

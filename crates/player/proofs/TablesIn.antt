@@ -1,14 +1,14 @@
 -- A table in bytes: what a loop keeps that fills the table from them, place by place.
 use mathlib.Core.Path.{◌≡◌, sym, ◌∙◌}
 use mathlib.Core.List.{List}
-use Prim.Native.Nat.{ℕ, ◌+◌, ◌/◌, ◌%◌, ◌≤◌, ◌<◌}
+use Prim.Native.Nat.{ℕ, ◌≤◌, ◌<◌}
 use native.Mathlib.Omega.{arith}
-use borrow.Author.Count.{below_none, below_more}
+use borrow.Author.Count.{below_none}
 use lib.ListN.{get_or}
-use Rattle.player.specs.Table.{keys, Table, places, key_place, velocity_at}
+use Rattle.player.specs.Table.{Table, places, key_place, velocity_at}
 use Rattle.player.specs.Entries.{table_in}
-use Rattle.player.proofs.Tables.{Shaped, shaped_of, entry_of, table_ext, shaped_set}
-use Rattle.player.proofs.Places.{place_channel, place_key, place_within, velocity_at_lem, set_place, velocity_set_same, velocity_set_other}
+use Rattle.player.proofs.Tables.{Shaped, shaped_of, entry_of, table_ext}
+use Rattle.player.proofs.Places.{place_within, velocity_at_lem}
 
 module _ (bytes : List ℕ) where
   pub record Filled (t : Table) (place : ℕ) : Type 0 where
@@ -20,15 +20,6 @@ module _ (bytes : List ℕ) where
   filled_first h = record { within = omega arith; shaped = h; there = below_none _ }
 
   module _ {t : Table} {place : ℕ} (f : Filled t place) where
-    pub filled_more : (more : place < places) → Filled (set_place f.shaped place (get_or bytes place 0) more) (place + 1)
-    filled_more more =
-        let v = get_or bytes place 0 in
-        record {
-          within = omega arith;
-          shaped = shaped_set f.shaped (place / keys) (place % keys) v (place_channel place more) (place_key place);
-          there = below_more _ place (λ p h. velocity_set_other f.shaped place v more p (λ (e : p ≡ place). omega arith) ∙ f.there p h) (velocity_set_same f.shaped place v more);
-        }
-
     pub filled_all : places ≤ place → t ≡ table_in bytes
     unfolding table_in
     filled_all last =

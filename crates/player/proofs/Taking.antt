@@ -1,8 +1,8 @@
 -- What the loop that takes a list from rows keeps: the events so far are those of the rows before the place, which are all events'.
-use mathlib.Core.Path.{◌≡◌, refl, sym, ap, subst, ◌∙◌}
+use mathlib.Core.Path.{◌≡◌, refl, sym, ap, ◌∙◌}
 use mathlib.Core.Bool.{true, false}
 use mathlib.Core.List.{List, [], ◌∷◌, ◌++◌, map, append_assoc, append-nil}
-use Prim.Native.Nat.{ℕ, ◌+◌, ◌-◌, ◌≤◌, ◌<◌}
+use Prim.Native.Nat.{ℕ, ◌+◌, ◌*◌, ◌-◌, ◌≤◌, ◌<◌}
 use native.Mathlib.Omega.{arith}
 use lib.ListN.{take, drop, set}
 use Rattle.smf.specs.Answer.{unless, gives}
@@ -23,53 +23,58 @@ module _ (cap count : ℕ) (cells : List ℕ) where
   abbrev pub RowsTaken : Beside Held
   RowsTaken = list_beside cap (unless (are_rows count cells) 18 (gives (called_rows count cells)))
 
-  pub record Taking (xs : List Record) (at left : ℕ) : Type 0 where
-    pub looked : Looked count cells at left
-    pub few : left ≤ count
+  -- the rows in front of an index are events', and the records there hold them
+  pub record Taking (xs : List Record) (index : ℕ) : Type 0 where
+    pub looked : Looked count cells (index * width) (count - index)
+    pub passed : index ≤ count
     pub events : List (Event Span)
-    pub held : Holds cap xs (count - left) events
-    pub sofar : called_rows count cells ≡ events ++ called_rows left (drop at cells)
+    pub held : Holds cap xs index events
+    pub sofar : called_rows count cells ≡ events ++ called_rows (count - index) (drop (index * width) cells)
 
-  pub taking_first : (xs : List Record) (n : ℕ) → Holds cap xs n [] → Taking xs 0 count
+  pub taking_first : (xs : List Record) (n : ℕ) → Holds cap xs n [] → Taking xs 0
   taking_first xs n h =
-      let none : 0 ≡ count - count = omega arith in
+      let front : 0 * width ≡ 0 = omega arith in
+      let all : count - 0 ≡ count = omega arith in
       record {
-        looked = looked_first count cells;
-        few = omega arith;
+        looked = rw (front, all) (looked_first count cells);
+        passed = omega arith;
         events = [];
-        held = subst (λ (k : ℕ). Holds cap xs k []) none (holds_none cap xs n h);
-        sofar = refl;
+        held = holds_none cap xs n h;
+        sofar = rw (front, all) refl;
       }
 
-  module _ {xs : List Record} {at left : ℕ} (g : Taking xs at left) where
-    pub taking_none : 0 < left → is_row (take width (drop at cells)) ≡ false → with_number (holding cap []) 18 ≡ RowsTaken
+  module _ {xs : List Record} {index : ℕ} (g : Taking xs index) where
+    pub taking_none : index < count → is_row (take width (drop (index * width) cells)) ≡ false → with_number (holding cap []) 18 ≡ RowsTaken
     unfolding beside
-    taking_none more h = rw (sym (looked_none g.looked more h))
+    taking_none more h = rw (sym (looked_none g.looked (omega arith) h))
 
-    called_all : left ≤ 0 → called_rows count cells ≡ g.events
+    called_all : count ≤ index → called_rows count cells ≡ g.events
     unfolding called_rows
     called_all last =
-        let none : left ≡ 0 = omega arith in
-        g.sofar ∙ ap (λ (n : ℕ). g.events ++ called_rows n (drop at cells)) none ∙ append-nil g.events
+        let none : count - index ≡ 0 = omega arith in
+        g.sofar ∙ ap (λ (n : ℕ). g.events ++ called_rows n (drop (index * width) cells)) none ∙ append-nil g.events
 
-    pub taking_all : left ≤ 0 → with_number (record { records = map record_of xs; count = count }) 0 ≡ RowsTaken
+    pub taking_all : count ≤ index → with_number (record { records = map record_of xs; count = count }) 0 ≡ RowsTaken
     unfolding beside
     taking_all last =
-        let every : count - left ≡ count = omega arith in
-        rw (← looked_last g.looked last, called_all last, ← g.held, every)
+        let every : index ≡ count = omega (arith, g.passed) in
+        rw (← looked_last g.looked (omega arith), called_all last, ← g.held, every)
 
-    pub taking_more : 0 < left → count ≤ cap → is_row (take width (drop at cells)) ≡ true → (x : Record) → called_row (take width (drop at cells)) ≡ record_of x
-        → Taking (set xs (count - left) x) (at + width) (left - 1)
+    pub taking_more : index < count → count ≤ cap → is_row (take width (drop (index * width) cells)) ≡ true → (x : Record)
+        → called_row (take width (drop (index * width) cells)) ≡ record_of x → Taking (set xs index x) (index + 1)
     taking_more more cap-holds h x is =
-        let on : (count - left) + 1 ≡ count - (left - 1) = omega (arith, g.few) in
+        let some : 0 < count - index = omega arith in
+        let at : index * width + width ≡ (index + 1) * width = omega arith in
+        let left : count - index - 1 ≡ count - (index + 1) = omega arith in
         record {
-          looked = looked_more g.looked more h;
-          few = omega (arith, g.few);
+          looked = rw (at, left) at (looked_more g.looked some h);
+          passed = omega arith;
           events = g.events ++ (record_of x ∷ []);
-          held = subst (λ (k : ℕ). Holds cap (set xs (count - left) x) k (g.events ++ (record_of x ∷ []))) on (holds_more cap xs (count - left) g.events x (omega (arith, g.few)) g.held);
+          held = holds_more cap xs index g.events x (omega arith) g.held;
           sofar =
               g.sofar
-              ∙ ap (◌++◌ g.events) (records_on cells at more)
-              ∙ ap (λ (e : Event Span). g.events ++ (e ∷ called_rows (left - 1) (drop (at + width) cells))) is
-              ∙ sym (append_assoc g.events (record_of x ∷ []) (called_rows (left - 1) (drop (at + width) cells)));
+              ∙ ap (◌++◌ g.events) (records_on cells (index * width) some)
+              ∙ ap (λ (e : Event Span). g.events ++ (e ∷ called_rows (count - index - 1) (drop (index * width + width) cells))) is
+              ∙ sym (append_assoc g.events (record_of x ∷ []) (called_rows (count - index - 1) (drop (index * width + width) cells)))
+              ∙ rw (at, left);
         }

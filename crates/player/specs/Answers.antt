@@ -1,21 +1,24 @@
--- What the functions of this crate answer. An array of arrays can be no part of a struct, so a number is answered beside the table or the list: 0
--- where it is accepted, else the refusal's.
-use Rattle.std.specs.Prelude.{List, [], ℕ}
+-- What the functions of this crate answer: the table or the list, and a number beside it, which is 0 where it is accepted, else the refusal's.
+use Rattle.std.specs.Prelude.{List, [], ℕ, Err, None, Ok, Option, Result, Some}
 use Rattle.smf.specs.Answer.{Answer, gives, refuses, and_then}
 use Rattle.smf.specs.Place.{Span}
 use Rattle.smf.specs.Event.{Event}
 use Rattle.smf.specs.Lists.{Held, holding}
+use Rattle.base.specs.Refusal.{number_of}
+use Rattle.base.specs.declared.Refusal.{Refusal}
+use Rattle.track.specs.List.{capacity, held_of}
+use Rattle.track.specs.declared.list.EventList.{EventList}
 use Rattle.player.specs.Table.{Table}
 use Rattle.player.specs.Notes.{Note, no_such_note, note, table_after}
 use Rattle.player.specs.declared.notes.Note as code
-use Rattle.player.specs.declared.notes.Note.TheVariants as variant
+use Rattle.player.specs.declared.notes.Untaken.{Untaken}
 
--- something, and the number beside it
+-- what a function gives, and the number that it answers by
 pub record Beside (A : Type 0) : Type 0 where
   pub value : A
   pub number : ℕ
 
--- what a function gives, with the number that it leaves behind the reference lent to it
+-- something, with a number beside it
 abbrev pub with_number : {A : Type 0} → A → ℕ → Beside A
 with_number a n = record { value = a; number = n }
 
@@ -32,7 +35,17 @@ table_beside t accepted = beside t (and_then accepted (λ (es : List (Event Span
 abbrev pub list_beside : ℕ → Answer (List (Event Span)) → Beside Held
 list_beside most asked = beside (holding most []) (and_then asked (λ (es : List (Event Span)). gives (holding most es)))
 
+-- what `after` answers: the table after the list, or the table that is handed back with the refusal
+abbrev pub table_said : Result Table Untaken → Beside Table
+table_said (Ok t) = with_number t 0
+table_said (Err u) = with_number u.table (number_of u.refusal)
+
+-- what `silence` answers: the list; after a refusal an empty one
+abbrev pub list_said : Result EventList Refusal → Beside Held
+list_said (Ok l) = with_number (held_of l) 0
+list_said (Err n) = with_number (holding capacity []) (number_of n)
+
 -- the note message that a value of the code says
-abbrev pub note_said : code.Note → Note
-note_said variant.None = no_such_note
-note_said (variant.Key channel key velocity) = note channel key velocity
+abbrev pub note_said : Option code.Note → Note
+note_said None = no_such_note
+note_said (Some n) = note n.channel n.key n.velocity

@@ -1,5 +1,5 @@
 -- What the exported entries take and leave: a table as its bytes, channel by channel, and a list as rows.
-use Rattle.std.specs.Prelude.{◌&&◌, List, map, ℕ, leb, get_or, length}
+use Rattle.std.specs.Prelude.{◌&&◌, List, map, ℕ, leb, get_or, length, Err, Ok, Result}
 use Rattle.smf.specs.Answer.{Answer, gives, refuses, unless, and_then}
 use Rattle.smf.specs.Place.{Span}
 use Rattle.smf.specs.Write.{Written, put}
@@ -7,10 +7,12 @@ use Rattle.smf.specs.Event.{Event}
 use Rattle.rows.specs.RowLists.{are_rows, called_rows}
 use Rattle.rows.specs.Sheet.{sheet_of}
 use Rattle.loader.specs.Entry.{answered, leaves}
+use Rattle.base.specs.Refusal.{number_of}
+use Rattle.base.specs.declared.Refusal.{Refusal}
 use Rattle.player.specs.Table.{Table, numbers_from, table_of, places, key_place, velocity_at}
 use Rattle.player.specs.Notes.{table_after}
 use Rattle.player.specs.Widths.{all_within}
-use Rattle.player.specs.Answers.{Beside, beside}
+use Rattle.player.specs.Answers.{Beside, with_number, beside}
 
 -- the table that bytes are: those of channel 0 by key, then those of channel 1, and so on
 unfoldable pub table_in : List ℕ → Table
@@ -30,6 +32,11 @@ rows_accepted most cells count =
 abbrev pub bytes_beside : List ℕ → Answer (List (Event Span)) → Beside (List ℕ)
 bytes_beside bytes accepted = beside bytes (and_then accepted (λ (es : List (Event Span)). gives (bytes_in (table_after (table_in bytes) es))))
 
+-- what is answered of bytes: those of the table after the rows; after a refusal as they came
+abbrev pub bytes_said : List ℕ → Result (List ℕ) Refusal → Beside (List ℕ)
+bytes_said bytes (Ok end) = with_number end 0
+bytes_said bytes (Err n) = with_number bytes (number_of n)
+
 -- what is left in the cells and behind the count, and the number answered
 pub record CellsLeft : Type 0 where
   pub cells : List ℕ
@@ -39,6 +46,11 @@ pub record CellsLeft : Type 0 where
 -- these cells, this count and this number
 abbrev pub cells_left : List ℕ → ℕ → ℕ → CellsLeft
 cells_left cells count number = record { cells = cells; count = count; number = number }
+
+-- what is answered of cells that rows were put into: how many rows, or a refusal, and then the count is 0
+abbrev pub cells_said : List ℕ → Result ℕ Refusal → CellsLeft
+cells_said cells (Ok n) = cells_left cells n 0
+cells_said cells (Err n) = cells_left cells 0 (number_of n)
 
 -- so many rows were put, or there was no room for them and none was
 abbrev pub rows_put : ℕ → Written → CellsLeft

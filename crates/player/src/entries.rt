@@ -1,4 +1,5 @@
-// The entries for C and Rust: a table is its bytes, channel by channel, and a list is rows of cells.
+// The entries for C and Rust: a table is its bytes, channel by channel, and a list is rows of cells. The C interface has the
+// rows with a count beside them, and what is found in values lent by `&mut`.
 ghost use Rattle.std.specs.Prelude.{◌≡◌, map, ◌+◌, ◌*◌, ◌≤◌, length, take};
 ghost use Rattle.smf.specs.Answer.{unless, gives};
 ghost use Rattle.smf.specs.Write.{over};
@@ -7,14 +8,15 @@ ghost use Rattle.rows.specs.Rows.{width};
 ghost use Rattle.rows.specs.RowLists.{are_rows, called_rows};
 ghost use Rattle.rows.specs.Sheet.{sheet_of};
 ghost use Rattle.player.specs.Sounding.{counts, silence};
-ghost use Rattle.player.specs.Answers.{with_number, list_beside};
-ghost use Rattle.player.specs.Entries.{table_in, bytes_in, rows_accepted, bytes_beside, cells_left, silence_left};
+ghost use Rattle.player.specs.Answers.{with_number, list_said, list_beside};
+ghost use Rattle.player.specs.Entries.{table_in, bytes_in, rows_accepted, bytes_beside, bytes_said, cells_left, cells_said, silence_left};
 
-use crate::notes::after;
+use crate::notes::{Untaken, after};
 use crate::silence::silence;
 use crate::table::{CHANNELS, KEYS, PLACES, counts, fresh};
 use base::{Refusal, u4, u7};
-use rows::back::{RowEvent, row_event_at};
+use loader::told;
+use rows::back::row_event_at;
 use rows::{WIDTH, event_row};
 use track::list::{CAPACITY, EventList};
 use track::record::recorded;
@@ -24,10 +26,8 @@ fn table_in(bytes: [u8; PLACES]) -> [[u8; KEYS]; CHANNELS]
     ensures { result ≡ table_in bytes }
 {
     let mut table = fresh();
-    let mut place: usize = 0;
-    while place < PLACES {
-        table[place / KEYS][place % KEYS] = bytes[place];
-        place += 1;
+    for (place, velocity) in bytes.iter().enumerate() {
+        table[place / KEYS][place % KEYS] = *velocity;
     }
     table
 }
@@ -37,52 +37,24 @@ fn bytes_in(table: [[u8; KEYS]; CHANNELS]) -> [u8; PLACES]
     ensures { result ≡ bytes_in table }
 {
     let mut bytes = [0u8; PLACES];
-    let mut place: usize = 0;
-    while place < PLACES {
-        bytes[place] = table[place / KEYS][place % KEYS];
-        place += 1;
+    for (place, byte) in bytes.iter_mut().enumerate() {
+        *byte = table[place / KEYS][place % KEYS];
     }
     bytes
 }
 
-// The list of so many rows, no more than it holds; an empty one and 18 where a row is no event's.
-fn list_in(rows: &[u64], count: usize, answer: &mut u8) -> EventList
+// The list of so many rows, no more than it holds; 18 where a row is no event's.
+fn list_in(rows: &[u64], count: usize) -> Result<EventList, Refusal>
     requires { count ≤ capacity }
-    ensures { with_number (held_of result) answer.new ≡ list_beside capacity (unless (are_rows count rows.now) 18 (gives (called_rows count rows.now))) }
+    ensures { list_said result ≡ list_beside capacity (unless (are_rows count rows.now) 18 (gives (called_rows count rows.now))) }
 {
     let mut list = EventList::new();
-    let mut at: usize = 0;
-    let mut left = count;
-    while 0 < left {
-        match row_event_at(rows, at) {
-            RowEvent::Refused(refusal) => {
-                *answer = refusal.number();
-                return EventList::new();
-            }
-            RowEvent::Event(event) => {
-                let index = count - left;
-                let kept = recorded(event);
-                list.records[index] = kept;
-                at += WIDTH; // the next row
-                left -= 1;
-            }
-        }
+    for index in 0..count {
+        let event = row_event_at(rows, index * WIDTH)?;
+        list.records[index] = recorded(event);
     }
-    *answer = 0;
     list.count = count;
-    list
-}
-
-// Lays a row into cells from a place on.
-fn put_row(rows: &mut [u64], at: usize, row: [u64; WIDTH])
-    requires { at + width ≤ length rows.old }
-    ensures { rows.new ≡ over row rows.old at }
-{
-    let mut i: usize = 0;
-    while i < WIDTH {
-        rows[at + i] = row[i];
-        i += 1;
-    }
+    Ok(list)
 }
 
 // Lays the rows of a list into cells that are enough, from the first on.
@@ -91,14 +63,42 @@ fn put_rows(list: EventList, rows: &mut [u64])
     requires width_in_bounds { list.count * width ≤ length rows.old }
     ensures { rows.new ≡ over (sheet_of (take list.count (map record_of list.records))) rows.old 0 }
 {
-    let count = list.count;
-    let mut index: usize = 0;
-    while index < count {
-        let kept = list.records[index];
+    for (index, kept) in list.records[..list.count].iter().enumerate() {
         let event = kept.event;
-        let kind = event.kind;
-        put_row(rows, index * WIDTH, event_row(event.delta.0, kind));
-        index += 1;
+        let at = index * WIDTH;
+        rows[at..at + WIDTH].copy_from_slice(&event_row(event.delta.0, event.kind));
+    }
+}
+
+// Lays the rows of the silencing list from a channel and key into cells, from the first on, and answers how many they
+// are. Refuses 18, then 20 where the cells are too few: then every cell is as it came.
+fn put_silence(
+    table: [[u8; KEYS]; CHANNELS],
+    channel: u4,
+    key: u7,
+    rows: &mut [u64],
+) -> Result<usize, Refusal>
+    ensures { cells_said rows.new result ≡ silence_left (silence capacity table channel.0 key.0) rows.old }
+{
+    let list = silence(table, channel, key)?;
+    if rows.len() < list.count * WIDTH {
+        return Err(Refusal::NoRoom);
+    }
+    put_rows(list, rows);
+    Ok(list.count)
+}
+
+// The bytes of the table after so many rows, where these are accepted.
+fn bytes_after(rows: &[u64], count: usize, bytes: [u8; PLACES]) -> Result<[u8; PLACES], Refusal>
+    ensures { bytes_said bytes result ≡ bytes_beside bytes (rows_accepted capacity rows.now count) }
+{
+    if CAPACITY < count {
+        return Err(Refusal::TooManyEvents);
+    }
+    let list = list_in(rows, count)?;
+    match after(table_in(bytes), list) {
+        Err(Untaken { refusal, table: _ }) => Err(refusal), // a width
+        Ok(left) => Ok(bytes_in(left)),
     }
 }
 
@@ -109,20 +109,7 @@ fn put_rows(list: EventList, rows: &mut [u64])
 pub extern "C" fn apk_sounding_after(rows: &[u64], count: usize, table: &mut [u8; PLACES]) -> u8
     ensures { with_number table.new result ≡ bytes_beside table.old (rows_accepted capacity rows.now count) }
 {
-    if CAPACITY < count {
-        return Refusal::TooManyEvents.number();
-    }
-    let mut answer: u8 = 0;
-    let list = list_in(rows, count, &mut answer);
-    if answer != 0 {
-        return answer;
-    }
-    let left = after(table_in(*table), list, &mut answer);
-    if answer != 0 {
-        return answer; // a width
-    }
-    *table = bytes_in(left);
-    0
+    told(bytes_after(rows, count, *table), table)
 }
 
 // How many keys of each channel sound.
@@ -146,16 +133,8 @@ pub extern "C" fn apk_sounding_silence(
     ensures { cells_left rows.new count.new result ≡ silence_left (silence capacity (table_in table.now) channel key) rows.old }
 {
     *count = 0;
-    let mut answer: u8 = 0;
-    let list = silence(table_in(*table), u4(channel), u7(key), &mut answer);
-    if answer != 0 {
-        return answer;
-    }
-    let many = list.count;
-    if rows.len() < many * WIDTH {
-        return Refusal::NoRoom.number();
-    }
-    put_rows(list, rows);
-    *count = many;
-    0
+    told(
+        put_silence(table_in(*table), u4(channel), u7(key), rows),
+        count,
+    )
 }

@@ -15,5 +15,5 @@ pub fn sounds(velocity: u8) -> bool
 pub fn key_place(channel: u8, key: u8) -> usize
     ensures { result ≡ key_place channel key }
 {
-    channel as usize * KEYS + key as usize
+    usize::from(channel) * KEYS + usize::from(key)
 }

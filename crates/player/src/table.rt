@@ -14,25 +14,22 @@ pub const KEYS: usize = 128;
 // How many entries a table has. They have an order, channel by channel and by key, and a place in it.
 pub const PLACES: usize = CHANNELS * KEYS;
 
-// A fresh table: no key sounds.
+// A fresh table: no key sounds. Tables are arrays of arrays by value, a form that document 01 names (docs/DECISIONS.md).
 pub fn fresh() -> [[u8; KEYS]; CHANNELS]
     ensures { result ≡ fresh }
 {
-    let channel = [0u8; KEYS];
-    [channel; CHANNELS]
+    [[0; KEYS]; CHANNELS]
 }
 
 // How many keys of a channel sound.
 fn count(channel: [u8; KEYS]) -> u8
     ensures { result ≡ sounding_count channel }
 {
-    let mut sounding: u8 = 0;
-    let mut key: usize = 0;
-    while key < KEYS {
-        if sounds(channel[key]) {
+    let mut sounding: u8 = 0; // `filter` with `count` would give a usize to be narrowed again, which is no plainer
+    for velocity in &channel {
+        if sounds(*velocity) {
             sounding += 1;
         }
-        key += 1;
     }
     sounding
 }
@@ -41,11 +38,5 @@ fn count(channel: [u8; KEYS]) -> u8
 pub fn counts(table: [[u8; KEYS]; CHANNELS]) -> [u8; CHANNELS]
     ensures { result ≡ counts table }
 {
-    let mut sounding = [0u8; CHANNELS];
-    let mut channel: usize = 0;
-    while channel < CHANNELS {
-        sounding[channel] = count(table[channel]);
-        channel += 1;
-    }
-    sounding
+    table.map(count)
 }

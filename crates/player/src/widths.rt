@@ -2,8 +2,8 @@
 ghost use Rattle.std.specs.Prelude.{◌≡◌, ◌&&◌};
 ghost use Rattle.midi.specs.Midi.{message_of};
 ghost use Rattle.meta.specs.Meta.{meta_of};
-ghost use Rattle.event.specs.Event.{event_of};
-ghost use Rattle.player.specs.Widths.{within, message_within, meta_within, event_within};
+ghost use Rattle.event.specs.Event.{kind_of, event_of};
+ghost use Rattle.player.specs.Widths.{within, message_within, meta_within, kind_within, event_within};
 
 use event::{TrackEvent, TrackEventKind};
 use meta::MetaMessage;
@@ -13,31 +13,27 @@ use midi::MidiMessage;
 fn two(a: u8, b: u8) -> bool
     ensures { result ≡ (within 7 a && within 7 b) }
 {
-    if 0x80 <= a {
-        return false;
-    }
-    b < 0x80
+    a < 0x80 && b < 0x80
 }
 
 // Whether the fields of a channel message are within their widths.
+#[tactic(auto, unfolding(crate::specs::Widths::message_within))]
 fn message_within(message: MidiMessage) -> bool
     ensures { result ≡ message_within (message_of message) }
 {
     match message {
-        MidiMessage::NoteOff { key, vel } => two(key.0, vel.0),
-        MidiMessage::NoteOn { key, vel } => two(key.0, vel.0),
-        MidiMessage::Aftertouch { key, vel } => two(key.0, vel.0),
+        MidiMessage::NoteOff { key, vel }
+        | MidiMessage::NoteOn { key, vel }
+        | MidiMessage::Aftertouch { key, vel } => two(key.0, vel.0),
         MidiMessage::Controller { controller, value } => two(controller.0, value.0),
         MidiMessage::ProgramChange { program } => program.0 < 0x80,
         MidiMessage::ChannelAftertouch { vel } => vel.0 < 0x80,
-        MidiMessage::PitchBend { bend } => {
-            let raw = bend.0;
-            raw.0 < 0x4000
-        }
+        MidiMessage::PitchBend { bend } => bend.0.0 < 0x4000,
     }
 }
 
 // Whether the channel, the port or the tempo of a meta message is; no other has a restricted field.
+#[tactic(auto, unfolding(crate::specs::Widths::meta_within))]
 fn meta_within(message: MetaMessage) -> bool
     ensures { result ≡ meta_within (meta_of message) }
 {
@@ -49,23 +45,22 @@ fn meta_within(message: MetaMessage) -> bool
     }
 }
 
+// Whether the channel and the other restricted fields of a kind are within their widths.
+#[tactic(auto, unfolding(crate::specs::Widths::kind_within))]
+fn kind_within(kind: TrackEventKind) -> bool
+    ensures { result ≡ kind_within (kind_of kind) }
+{
+    match kind {
+        TrackEventKind::Midi { channel, message } => channel.0 < 0x10 && message_within(message),
+        TrackEventKind::Meta(message) => meta_within(message),
+        TrackEventKind::SysEx(_) | TrackEventKind::Escape(_) => true,
+    }
+}
+
 // Whether the delta of an event, its channel and its other restricted fields are within their widths.
+#[tactic(auto, unfolding(crate::specs::Widths::event_within))]
 pub fn event_within(event: TrackEvent) -> bool
     ensures { result ≡ event_within (event_of event) }
 {
-    if 0x1000_0000 <= event.delta.0 {
-        return false;
-    }
-    let kind = event.kind;
-    match kind {
-        TrackEventKind::Midi { channel, message } => {
-            if 0x10 <= channel.0 {
-                return false;
-            }
-            message_within(message)
-        }
-        TrackEventKind::Meta(message) => meta_within(message),
-        TrackEventKind::SysEx(_) => true,
-        TrackEventKind::Escape(_) => true,
-    }
+    event.delta.0 < 0x1000_0000 && kind_within(event.kind)
 }

@@ -1,4 +1,5 @@
 -- What was made a row comes back from it, for every event of the code.
+use Rattle.std.specs.Prelude.{None, Some}
 use mathlib.Core.Path.{◌≡◌, refl}
 use mathlib.Core.Bool.{Bool, true, false, not}
 use mathlib.Core.List.{List, ◌∷◌}
@@ -21,13 +22,10 @@ use Rattle.header.specs.Fps.{rate_of}
 use Rattle.header.specs.declared.Fps.{Fps}
 use Rattle.header.specs.declared.Fps.TheVariants as fps
 use Rattle.midi.specs.Midi.{message_of}
-use Rattle.meta.specs.Meta.{meta_of, number_meta}
+use Rattle.meta.specs.Meta.{meta_of}
 use Rattle.midi.specs.declared.MidiMessage.{MidiMessage}
 use Rattle.midi.specs.declared.MidiMessage.TheVariants as midi
 use Rattle.midi.specs.contracts.MidiMessage as midi-type
-use Rattle.meta.specs.declared.OptionU16.{OptionU16}
-use Rattle.meta.specs.declared.OptionU16.TheVariants as option
-use Rattle.meta.specs.contracts.OptionU16 as option-type
 use Rattle.meta.specs.declared.MetaMessage.{MetaMessage}
 use Rattle.meta.specs.declared.MetaMessage.TheVariants as meta
 use Rattle.meta.specs.contracts.MetaMessage as meta_type
@@ -71,14 +69,10 @@ module _ (delta : ℕ) (d : ltb delta (2 ^ 32) ≡ true) where
   midi_kept ch c (midi.ChannelAftertouch x) vs p = rw (d, lt-ltb ch 256 c, lt-ltb x.0 256 p.1.1.1.1.0.1.1.0.1)
   midi_kept ch c (midi.PitchBend bend) vs p = rw (d, lt-ltb bend.0.0 65536 p.1.1.1.1.0.1.1.0.1.1.0.1, lt-ltb ch 256 c)
 
-  number_kept : (n : OptionU16) (vs : List Val) → Is option-type.the_row n vs → event_of_row (delta ∷ meta_row (number_meta n)) ≡ gives (event delta (kind.meta (number_meta n)))
-  unfolding event_of_row is_row called_row fields_fit row_kind row_meta row_number_of
-  number_kept (option.Some n) vs p = rw (d, lt-ltb n 65536 p.1.1.1.1.0.1)
-  number_kept option.None vs p = rw d
-
   meta_kept : (m : MetaMessage) (vs : List Val) → Is meta_type.the_row m vs → event_of_row (delta ∷ meta_row (meta_of m)) ≡ gives (event delta (kind.meta (meta_of m)))
-  unfolding event_of_row is_row called_row fields_fit are_bytes time_fits row_kind row_meta is_text
-  meta_kept (meta.TrackNumber n) vs p = number_kept n _ p.1.1.1.1.0
+  unfolding event_of_row is_row called_row fields_fit are_bytes time_fits row_kind row_meta row_number_of is_text
+  meta_kept (meta.TrackNumber (Some n)) vs p = rw (d, lt-ltb n 65536 p.1.1.1.1.0.1.1.1.1.0.1)
+  meta_kept (meta.TrackNumber None) vs p = rw d
   meta_kept (meta.Text r) vs p = rw d
   meta_kept (meta.Copyright r) vs p = rw d
   meta_kept (meta.TrackName r) vs p = rw d

@@ -1,14 +1,18 @@
 -- What a loop that lays a row into cells keeps: the first i cells of the row stand at the place, and every other cell as it was.
+-- The code lays a row by `copy_from_slice`, which says the same at once; the law is kept since the pages named it.
 use mathlib.Core.Path.{◌≡◌, sym, ap, ◌∙◌}
-use mathlib.Core.List.{List}
+use mathlib.Core.List.{List, append_assoc}
 use Prim.Native.Nat.{ℕ, ◌+◌, ◌≤◌, ◌<◌}
 use native.Mathlib.Numerals.{add-one}
 use native.Mathlib.Omega.{arith}
-use lib.ListN.{length, take, set, get_or}
-use lib.Seq.{paste, paste-zero, paste-suc, length-paste, take-length}
+use lib.ListN.{length, take, drop, set, get_or}
+use lib.Seq.{paste, paste-zero, paste-suc, length-paste, length-take-le, take-length}
 use Rattle.smf.specs.Write.{over}
-use Rattle.number.proofs.PayloadCopy.{pasted}
 use Rattle.rows.specs.Rows.{width}
+
+-- a copy of a list's first elements is a write of them
+pasted : (d : List ℕ) (at : ℕ) (s : List ℕ) (n : ℕ) → n ≤ length s → paste d at s n ≡ over (take n s) d at
+pasted d at s n h = append_assoc (take at d) (take n s) (drop (at + n) d) ∙ rw (length-take-le n s h)
 
 module _ (cells : List ℕ) (at : ℕ) (row : List ℕ) where
   pub record Laid (rows : List ℕ) (i : ℕ) : Type 0 where

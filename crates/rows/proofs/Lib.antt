@@ -1,5 +1,4 @@
 pub mod Width
-pub mod Fitting
 pub mod IsRow
 pub mod Kept
 pub mod Identical

@@ -23,7 +23,9 @@ use Rattle.smf.proofs.Place.{Sited, site_begun, site_next, number_placed_lem}
 use Rattle.smf.proofs.Reading.{message_with, one_or_two, data_one, data_two, body_status, body_running, status_channel, running_channel, event_body}
 use Rattle.smf.proofs.Steps.{event_within_lem}
 use Rattle.rows.specs.Rows.{row, midi_row}
-use Rattle.rows.specs.Short.{short_event, DataRead, ShortRead}
+use Rattle.std.specs.Prelude.{Option, None, Some}
+use Rattle.rows.specs.Short.{short_event, DataRead, ShortRead, ShortData, ShortAt}
+use Rattle.rows.specs.declared.short.Short.{Short}
 
 -- C0..DF, and only these, have one data byte
 pub one_byte : (status : ℕ) → status / 32 ≡ 6 → data_length status ≡ 1
@@ -102,6 +104,15 @@ module _ (s : List ℕ) (at running : ℕ) (valid : is_running running ≡ true)
           read = λ rules.
               d.read rules delta (body rules).1 ∙ rw (d.same, ← body_running rules running delta s (at + 1) (omega arith) h z) (body rules).0;
         }
+
+  -- and what the data says is said of the event
+  pub own_found : 0x80 ≤ get_or s (at + 1) 0 → get_or s (at + 1) 0 < 0xF0 → (r : Option Short) → ShortData s at (at + 2) (get_or s (at + 1) 0) r → ShortAt s at running r
+  own_found h g None d = d
+  own_found h g (Some x) d = short_own h g d
+
+  pub under_found : get_or s (at + 1) 0 < 0x80 → (running ≡ 0 → ⊥) → (r : Option Short) → ShortData s at (at + 1) running r → ShortAt s at running r
+  under_found h z None d = d
+  under_found h z (Some x) d = short_under h z d
 
 -- Its row
 

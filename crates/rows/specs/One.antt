@@ -1,10 +1,10 @@
 -- What reading one event into a row leaves in it and answers, in the terms of the definitions.
-use Rattle.std.specs.Prelude.{List, ℕ}
+use Rattle.rows.specs.declared.one.RowRead.{RowRead}
+use Rattle.event.specs.declared.read.EventRefused.{EventRefused}
+use Rattle.std.specs.Prelude.{List, ℕ, Err, Ok, Result}
 use Rattle.smf.specs.Event.{ReadAt, reads_at, refused_at}
 use Rattle.base.specs.Refusal.{number_of}
 use Rattle.rows.specs.Rows.{event_row}
-use Rattle.rows.specs.declared.one.ReadRow.{ReadRow}
-use Rattle.rows.specs.declared.one.ReadRow.TheVariants as read
 
 -- the row at the end: the event's; after a refusal, what it held
 abbrev pub read_row : ReadAt → List ℕ → List ℕ
@@ -22,6 +22,6 @@ beside_row (reads_at e) = row_at e.used e.running e.padding
 beside_row (refused_at n used running padding) = no_row n used running padding
 
 -- what each case of the answer says
-abbrev pub row_told : ReadRow → RowAt
-row_told (read.Row r) = row_at r.used r.running.status r.padding
-row_told (read.Refused n) = no_row (number_of n.refusal) n.used n.running.status n.padding
+abbrev pub row_told : Result RowRead EventRefused → RowAt
+row_told (Ok r) = row_at r.used r.running.status r.padding
+row_told (Err n) = no_row (number_of n.refusal) n.used n.running.status n.padding

@@ -1,17 +1,16 @@
 -- What reading a list into cells leaves in them and answers, in the terms of the definitions.
-use Rattle.std.specs.Prelude.{List, ℕ, ◌*◌, length}
-use Rattle.smf.specs.Answer.{Answer, gives, refuses, and_then}
+use Rattle.track.specs.declared.cursor.Stop.{Stop}
+use Rattle.rows.specs.declared.lists.RowLaid.{RowLaid}
+use Rattle.base.specs.declared.Refusal.{Refusal}
+use Rattle.std.specs.Prelude.{List, ℕ, ◌*◌, length, Err, Ok, Result}
+use Rattle.smf.specs.Answer.{Answer, gives, and_then}
 use Rattle.smf.specs.Write.{Written, put, over}
 use Rattle.smf.specs.Lists as smf
-use Rattle.base.specs.Refusal.{number_of}
+use Rattle.base.specs.Said.{said}
 use Rattle.track.specs.Cursor.{stop_of, reader_of}
 use Rattle.rows.specs.Rows.{width, event_row}
 use Rattle.rows.specs.Sheet.{sheet_of}
 use Rattle.rows.specs.declared.lists.RowsRead.{RowsRead}
-use Rattle.rows.specs.declared.lists.ReadRows.{ReadRows}
-use Rattle.rows.specs.declared.lists.ReadRows.TheVariants as read
-use Rattle.rows.specs.declared.lists.Laid.{Laid}
-use Rattle.rows.specs.declared.lists.Laid.TheVariants as laid
 
 -- of a list that was read: how many its events are, why reading stopped, the place of the next unread byte, the running status there and the padding
 pub record SheetAt : Type 0 where
@@ -43,12 +42,11 @@ abbrev pub rows_read : RowsRead → SheetAt
 rows_read r = record { count = r.count; stop = stop_of r.stop; place = r.place; running = r.running.status; padding = r.padding }
 
 -- what each case of the answer says
-abbrev pub sheet_answered : ReadRows → Answer SheetAt
-sheet_answered (read.Rows r) = gives (rows_read r)
-sheet_answered (read.Refused n) = refuses (number_of n)
+abbrev pub sheet_answered : Result RowsRead Refusal → Answer SheetAt
+sheet_answered = said rows_read
 
 -- what the code answers, with what the cells hold at the end
-abbrev pub rows_left : ReadRows → List ℕ → SheetRead
+abbrev pub rows_left : Result RowsRead Refusal → List ℕ → SheetRead
 rows_left r cells = record { cells = cells; answer = sheet_answered r }
 
 -- One step of it
@@ -69,6 +67,6 @@ laid_next (smf.takes e padding r) n cells = record { onward = goes padding r; ce
 laid_next (smf.stops why) n cells = record { onward = halts why; cells = cells }
 
 -- what the code answers, with what the cells hold at the end
-abbrev pub laid_of : Laid → List ℕ → LaidStep
-laid_of (laid.On on) cells = record { onward = goes on.padding (reader_of on.cursor); cells = cells }
-laid_of (laid.Stop why) cells = record { onward = halts (stop_of why); cells = cells }
+abbrev pub laid_of : Result RowLaid Stop → List ℕ → LaidStep
+laid_of (Ok on) cells = record { onward = goes on.padding (reader_of on.cursor); cells = cells }
+laid_of (Err why) cells = record { onward = halts (stop_of why); cells = cells }

@@ -1,6 +1,6 @@
 -- Short events: channel messages with a delta of one byte, which the readers into rows take at once. Nothing new is defined here: what is said is
 -- that the short way answers what `event_at` of `smf` does.
-use Rattle.std.specs.Prelude.{◌≡◌, List, ℕ, ◌/◌, ◌%◌, ◌≤◌, ◌<◌, length, drop, get_or}
+use Rattle.std.specs.Prelude.{◌≡◌, List, ℕ, Option, None, Some, ◌/◌, ◌%◌, ◌≤◌, ◌<◌, length, drop, get_or}
 use Rattle.smf.specs.Answer.{Rules}
 use Rattle.smf.specs.Place.{Span}
 use Rattle.smf.specs.Wire.{Delta, read_channel}
@@ -8,6 +8,7 @@ use Rattle.smf.specs.Kind.{midi}
 use Rattle.smf.specs.Event.{Event, event, placed, name_raw, event_at}
 use Rattle.smf.proofs.Place.{Sited}
 use Rattle.smf.proofs.Reading.{told, message_with}
+use Rattle.rows.specs.declared.short.Short.{Short}
 
 -- the event of a delta, a channel status and its data
 abbrev pub short_event : ℕ → ℕ → ℕ → ℕ → Event Span
@@ -21,8 +22,9 @@ pub record DataRead (s : List ℕ) (at place status used st a b : ℕ) : Type 0 
       → told (short_event delta.value st a b) used st delta.padding ≡ placed s at (name_raw rules (read_channel st delta (drop place s)))
 
 -- where any was found
-abbrev pub ShortData : List ℕ → ℕ → ℕ → ℕ → ℕ → ℕ → ℕ → ℕ → Type 0
-ShortData s at place status used st a b = (used ≡ 0 → ⊥) → DataRead s at place status used st a b
+abbrev pub ShortData : List ℕ → ℕ → ℕ → ℕ → Option Short → Type 0
+ShortData s at place status None = Unit {0}
+ShortData s at place status (Some found) = DataRead s at place status found.used found.status found.a found.b
 
 -- a short event that was found at a place is the event that is read there
 pub record ShortRead (s : List ℕ) (at running used status a b : ℕ) : Type 0 where
@@ -32,5 +34,6 @@ pub record ShortRead (s : List ℕ) (at running used status a b : ℕ) : Type 0 
   pub read : (rules : Rules) → told (short_event (get_or s at 0) status a b) used status 0 ≡ event_at rules running s at
 
 -- where one was found
-abbrev pub ShortAt : List ℕ → ℕ → ℕ → ℕ → ℕ → ℕ → ℕ → Type 0
-ShortAt s at running used status a b = (used ≡ 0 → ⊥) → ShortRead s at running used status a b
+abbrev pub ShortAt : List ℕ → ℕ → ℕ → Option Short → Type 0
+ShortAt s at running None = Unit {0}
+ShortAt s at running (Some found) = ShortRead s at running found.used found.status found.a found.b

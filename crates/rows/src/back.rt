@@ -16,100 +16,68 @@ use base::{Range, Refusal, u4, u7, u14, u24};
 use event::{TrackEvent, TrackEventKind};
 use header::signed::from_byte;
 use header::{Fps, SmpteTime};
-use meta::{MetaMessage, OptionU16};
+use meta::MetaMessage;
 use midi::{MidiMessage, PitchBend};
 use number::u28;
 
-// What making an event of a row answers.
-#[derive(Clone, Copy)]
-pub enum RowEvent {
-    // the event, which may still be illegal: a field may be above its width
-    Event(TrackEvent),
-    // 18: the cells are no event's row
-    Refused(Refusal), // 18: the row is no event's
-}
-
 // Whether five numbers are bytes; 0 stands for one that is not used.
+#[tactic(auto, unfolding(crate::specs::RowEvent::are_bytes))]
 pub fn are_bytes(a: u64, b: u64, c: u64, d: u64, e: u64) -> bool
     ensures { result ≡ are_bytes a b c d e }
 {
-    if 256 <= a {
-        return false;
-    }
-    if 256 <= b {
-        return false;
-    }
-    if 256 <= c {
-        return false;
-    }
-    if 256 <= d {
-        return false;
-    }
-    e < 256
+    a < 256 && b < 256 && c < 256 && d < 256 && e < 256
 }
 
 // Whether a kind's number is that of a text kind, 0x101 to 0x109.
+#[tactic(auto, unfolding(smf::specs::Kind::is_text))]
 fn is_text(number: u64) -> bool
     ensures { result ≡ is_text (number - 0x100) }
 {
-    if number < 0x101 {
-        return false;
-    }
-    number < 0x10A
+    matches!(number, 0x101..=0x109)
 }
 
 // Whether six numbers can be an SMPTE time's, in its ranges or not: five bytes and one of the four rates.
+#[tactic(auto, unfolding(crate::specs::RowEvent::time_fits, smf::specs::Smpte::is_rate))]
 fn time_fits(a: u64, b: u64, c: u64, d: u64, e: u64, rate: u64) -> bool
     ensures { result ≡ time_fits a b c d e rate }
 {
-    let bytes = are_bytes(a, b, c, d, e);
-    match rate {
-        24 => bytes,
-        25 => bytes,
-        29 => bytes,
-        30 => bytes,
-        _ => false,
-    }
+    matches!(rate, 24 | 25 | 29 | 30) && are_bytes(a, b, c, d, e)
 }
 
 // Whether the numbers that a kind uses are within what their integers hold.
+#[tactic(auto, unfolding(crate::specs::RowEvent::fields_fit))]
 fn fields_fit(number: u64, a: u64, b: u64, c: u64, d: u64, e: u64, f: u64) -> bool
     ensures { result ≡ fields_fit number a b c d e f }
 {
-    let two = are_bytes(a, b, c, 0, 0);
-    let one = are_bytes(a, b, 0, 0, 0);
     match number {
-        8 => two,
-        9 => two,
-        10 => two,
-        11 => two,
-        12 => one,
-        13 => one,
-        14 => {
-            if 0x1_0000 <= b {
-                return false;
-            }
-            a < 256
-        }
-        0xF0 => true,
-        0xF7 => true,
-        0x100 => {
-            if a == 0 {
-                return true;
-            }
-            b < 0x1_0000
-        }
-        0x120 => a < 256,
-        0x121 => a < 256,
-        0x12F => true,
+        8..=11 => are_bytes(a, b, c, 0, 0),
+        12 | 13 => are_bytes(a, b, 0, 0, 0),
+        14 => b < 0x1_0000 && a < 256,
+        0xF0 | 0xF7 | 0x12F | 0x17F => true,
+        0x100 => a == 0 || b < 0x1_0000,
+        0x120 | 0x121 | 0x159 | 0x200 => a < 256,
         0x151 => a < 0x1_0000_0000,
         0x154 => time_fits(a, b, c, d, e, f),
         0x158 => are_bytes(a, b, c, d, 0),
-        0x159 => a < 256,
-        0x17F => true,
-        0x200 => a < 256,
         _ => is_text(number),
     }
+}
+
+// The numbers of a row behind its delta, which fit its kind.
+#[derive(Clone, Copy)]
+struct Fitting {
+    // the kind's number
+    number: u64,
+    // the six fields
+    a: u64,
+    b: u64,
+    c: u64,
+    d: u64,
+    e: u64,
+    f: u64,
+    // the range of the payload
+    load: Range,
+    ghost fits: { fields_fit number a b c d e f ≡ true },
 }
 
 // The range of a payload.
@@ -123,17 +91,19 @@ fn load(start: u64, length: u64) -> Range
 }
 
 // A track number, or a missing one.
-fn track_number(there: u64, number: u64) -> OptionU16
+#[tactic(auto, unfolding(crate::specs::RowEvent::row_number_of))]
+fn track_number(there: u64, number: u64) -> Option<u16>
     requires { (eqb there 0 || ltb number 65536) ≡ true }
     ensures { number_meta result ≡ row_number_of there number }
 {
     if there == 0 {
-        return OptionU16::None;
+        return None;
     }
-    OptionU16::Some(number as u16)
+    Some(number as u16)
 }
 
-// The rate of one of the four numbers.
+// The rate of one of the four numbers. `Fps::from_int` would answer a `Result` here, of which the refusal cannot occur.
+#[tactic(auto, unfolding(smf::specs::Smpte::is_rate))]
 fn fps(rate: u64) -> Fps
     requires { is_rate rate ≡ true }
     ensures { rate_of result ≡ rate }
@@ -147,6 +117,7 @@ fn fps(rate: u64) -> Fps
 }
 
 // The SMPTE time of six numbers that fit.
+#[tactic(auto, unfolding(crate::specs::RowEvent::time_fits, crate::specs::RowEvent::are_bytes))]
 fn time(a: u64, b: u64, c: u64, d: u64, e: u64, rate: u64) -> SmpteTime
     requires { time_fits a b c d e rate ≡ true }
     ensures { smpte_time_of result ≡ time a b c d e rate }
@@ -161,7 +132,8 @@ fn time(a: u64, b: u64, c: u64, d: u64, e: u64, rate: u64) -> SmpteTime
     }
 }
 
-// A text kind by its number.
+// A text kind by its number. `meta` makes them of 01 to 09 in a private function: one for both would have to refuse the rest.
+#[tactic(auto, unfolding(smf::specs::Kind::is_text))]
 fn text(number: u64, load: Range) -> MetaMessage
     requires { is_text (number - 0x100) ≡ true }
     ensures { meta_of result ≡ text (number - 0x100) (span_of load) }
@@ -179,130 +151,148 @@ fn text(number: u64, load: Range) -> MetaMessage
     }
 }
 
-// A channel message behind its channel; `a`, the channel, and the two others fit.
-fn message(number: u64, a: u64, b: u64, c: u64) -> MidiMessage
-    requires c_value { fields_fit number a b c 0 0 0 ≡ true }
-    requires number_bound { number < 15 }
-    ensures { message_of result ≡ row_message number b c }
-{
-    match number {
-        8 => MidiMessage::NoteOff {
-            key: u7(b as u8),
-            vel: u7(c as u8),
-        },
-        9 => MidiMessage::NoteOn {
-            key: u7(b as u8),
-            vel: u7(c as u8),
-        },
-        10 => MidiMessage::Aftertouch {
-            key: u7(b as u8),
-            vel: u7(c as u8),
-        },
-        11 => MidiMessage::Controller {
-            controller: u7(b as u8),
-            value: u7(c as u8),
-        },
-        12 => MidiMessage::ProgramChange {
-            program: u7(b as u8),
-        },
-        13 => MidiMessage::ChannelAftertouch { vel: u7(b as u8) },
-        _ => MidiMessage::PitchBend {
-            bend: PitchBend(u14(b as u16)),
-        },
+impl Fitting {
+    // A channel message behind its channel.
+    #[tactic(auto, unfolding(crate::specs::RowEvent::row_message, crate::specs::RowEvent::fields_fit, crate::specs::RowEvent::are_bytes, smf::specs::Kind::is_text))]
+    fn message(self) -> MidiMessage
+        requires { self.number < 15 }
+        ensures { message_of result ≡ row_message self.number self.b self.c }
+    {
+        let b = self.b;
+        let c = self.c;
+        match self.number {
+            8 => MidiMessage::NoteOff {
+                key: u7(b as u8),
+                vel: u7(c as u8),
+            },
+            9 => MidiMessage::NoteOn {
+                key: u7(b as u8),
+                vel: u7(c as u8),
+            },
+            10 => MidiMessage::Aftertouch {
+                key: u7(b as u8),
+                vel: u7(c as u8),
+            },
+            11 => MidiMessage::Controller {
+                controller: u7(b as u8),
+                value: u7(c as u8),
+            },
+            12 => MidiMessage::ProgramChange {
+                program: u7(b as u8),
+            },
+            13 => MidiMessage::ChannelAftertouch { vel: u7(b as u8) },
+            _ => MidiMessage::PitchBend {
+                bend: PitchBend(u14(b as u16)),
+            },
+        }
     }
-}
 
-// The kind of a channel message, whose channel is the row's first field.
-fn midi(number: u64, a: u64, b: u64, c: u64) -> TrackEventKind
-    requires c_value { fields_fit number a b c 0 0 0 ≡ true }
-    requires number_bound { number < 15 }
-    ensures { kind_of result ≡ midi a (row_message number b c) }
-{
-    TrackEventKind::Midi {
-        channel: u4(a as u8),
-        message: message(number, a, b, c),
+    // The kind of a channel message, whose channel is the first field.
+    #[tactic(auto, unfolding(crate::specs::RowEvent::fields_fit, crate::specs::RowEvent::are_bytes, smf::specs::Kind::is_text))]
+    fn midi(self) -> TrackEventKind
+        requires { self.number < 15 }
+        ensures { kind_of result ≡ midi self.a (row_message self.number self.b self.c) }
+    {
+        TrackEventKind::Midi {
+            channel: u4(self.a as u8),
+            message: self.message(),
+        }
     }
-}
 
-// A meta message, of numbers that fit.
-fn meta(number: u64, a: u64, b: u64, c: u64, d: u64, e: u64, f: u64, load: Range) -> MetaMessage
-    requires f_value { fields_fit number a b c d e f ≡ true }
-    requires le_number { (15 ≤ number) × ((number ≡ 0xF0 → ⊥) × (number ≡ 0xF7 → ⊥)) }
-    ensures { meta_of result ≡ row_meta number a b c d e f (span_of load) }
-{
-    match number {
-        0x100 => MetaMessage::TrackNumber(track_number(a, b)),
-        0x120 => MetaMessage::MidiChannel(u4(a as u8)),
-        0x121 => MetaMessage::MidiPort(u7(a as u8)),
-        0x12F => MetaMessage::EndOfTrack,
-        0x151 => MetaMessage::Tempo(u24(a as u32)),
-        0x154 => MetaMessage::SmpteOffset(time(a, b, c, d, e, f)),
-        0x158 => MetaMessage::TimeSignature(a as u8, b as u8, c as u8, d as u8),
-        0x159 => MetaMessage::KeySignature(from_byte(a as u8), b != 0),
-        0x17F => MetaMessage::SequencerSpecific(load),
-        0x200 => MetaMessage::Unknown(a as u8, load),
-        _ => text(number, load),
+    // A meta message.
+    #[tactic(auto, unfolding(crate::specs::RowEvent::row_meta, crate::specs::RowEvent::fields_fit, crate::specs::RowEvent::are_bytes))]
+    fn meta(self) -> MetaMessage
+        requires { (15 ≤ self.number) × ((self.number ≡ 0xF0 → ⊥) × (self.number ≡ 0xF7 → ⊥)) }
+        ensures { meta_of result ≡ row_meta self.number self.a self.b self.c self.d self.e self.f (span_of self.load) }
+    {
+        let Fitting {
+            number,
+            a,
+            b,
+            c,
+            d,
+            e,
+            f,
+            load,
+        } = self;
+        match number {
+            0x100 => MetaMessage::TrackNumber(track_number(a, b)),
+            0x120 => MetaMessage::MidiChannel(u4(a as u8)),
+            0x121 => MetaMessage::MidiPort(u7(a as u8)),
+            0x12F => MetaMessage::EndOfTrack,
+            0x151 => MetaMessage::Tempo(u24(a as u32)),
+            0x154 => MetaMessage::SmpteOffset(time(a, b, c, d, e, f)),
+            0x158 => MetaMessage::TimeSignature(a as u8, b as u8, c as u8, d as u8),
+            0x159 => MetaMessage::KeySignature(from_byte(a as u8), b != 0),
+            0x17F => MetaMessage::SequencerSpecific(load),
+            0x200 => MetaMessage::Unknown(a as u8, load),
+            _ => text(number, load),
+        }
     }
-}
 
-// The kind of a row whose numbers fit, by the kind's number.
-fn kind(number: u64, a: u64, b: u64, c: u64, d: u64, e: u64, f: u64, load: Range) -> TrackEventKind
-    requires { fields_fit number a b c d e f ≡ true }
-    ensures { kind_of result ≡ row_kind number a b c d e f (span_of load) }
-{
-    if number < 15 {
-        return midi(number, a, b, c);
+    // The kind, by its number.
+    #[tactic(auto, unfolding(crate::specs::RowEvent::row_kind))]
+    fn kind(self) -> TrackEventKind
+        ensures { kind_of result ≡ row_kind self.number self.a self.b self.c self.d self.e self.f (span_of self.load) }
+    {
+        match self.number {
+            0..15 => self.midi(),
+            0xF0 => TrackEventKind::SysEx(self.load),
+            0xF7 => TrackEventKind::Escape(self.load),
+            _ => TrackEventKind::Meta(self.meta()),
+        }
     }
-    if number == 0xF0 {
-        return TrackEventKind::SysEx(load);
-    }
-    if number == 0xF7 {
-        return TrackEventKind::Escape(load);
-    }
-    TrackEventKind::Meta(meta(number, a, b, c, d, e, f, load))
 }
 
 // The event of a row, or 18 where it is no event's.
-pub fn row_event(row: [u64; WIDTH]) -> RowEvent
+pub fn row_event(row: [u64; WIDTH]) -> Result<TrackEvent, Refusal>
     ensures { row_answer result ≡ event_of_row row }
 {
-    let delta = row[0];
+    let [delta, number, a, b, c, d, e, f, start, length] = row;
     if 0x1_0000_0000 <= delta {
-        return RowEvent::Refused(Refusal::AboveWidth); // the delta
+        return Err(Refusal::AboveWidth); // the delta
     }
-    if !fields_fit(row[1], row[2], row[3], row[4], row[5], row[6], row[7]) {
-        return RowEvent::Refused(Refusal::AboveWidth);
+    if !fields_fit(number, a, b, c, d, e, f) {
+        return Err(Refusal::AboveWidth);
     }
-    let load = load(row[8], row[9]);
-    RowEvent::Event(TrackEvent {
+    let load = load(start, length);
+    let fitting = Fitting {
+        number,
+        a,
+        b,
+        c,
+        d,
+        e,
+        f,
+        load,
+    };
+    Ok(TrackEvent {
         delta: u28(delta as u32),
-        kind: kind(row[1], row[2], row[3], row[4], row[5], row[6], row[7], load),
+        kind: fitting.kind(),
     })
 }
 
-// The row that starts at a cell, where its cells are there.
+// The row that starts at a cell, where its cells are there. `cells_at` of `write` is the same line: one function for both would
+// be public, and so could not ask its caller for the cells.
 fn row_at(cells: &[u64], at: usize) -> [u64; WIDTH]
     requires { at + width ≤ length cells.now }
     ensures { result ≡ take width (drop at cells.now) }
 {
     let mut row = [0u64; WIDTH];
-    let mut i: usize = 0;
-    while i < WIDTH {
-        row[i] = cells[at + i];
-        i += 1;
-    }
+    row.copy_from_slice(&cells[at..at + WIDTH]);
     row
 }
 
 // The event of the row that starts at a cell; one that is not all there is no event's.
-pub fn row_event_at(cells: &[u64], at: usize) -> RowEvent
+#[tactic(auto, using(crate::proofs::IsRow::not_there))]
+pub fn row_event_at(cells: &[u64], at: usize) -> Result<TrackEvent, Refusal>
     ensures { row_answer result ≡ event_of_row (take width (drop at cells.now)) }
 {
     if cells.len() < at {
-        return RowEvent::Refused(Refusal::AboveWidth);
+        return Err(Refusal::AboveWidth);
     }
     if cells.len() - at < WIDTH {
-        return RowEvent::Refused(Refusal::AboveWidth);
+        return Err(Refusal::AboveWidth);
     }
     row_event(row_at(cells, at))
 }

@@ -1,5 +1,7 @@
 // An event as a row of numbers: the delta, the kind's number, six fields, the payload's start and length.
-// Rows are what the entries hand to C and take from it, and what sameness compares.
+// Rows are what the entries hand to C and take from it, and what sameness compares. Bytes, a place in them, a running status
+// and rules go in side by side, and no struct holds them: public functions take them so (docs/RULES.md, "What must change
+// shape": a place goes in), and those below hand them on.
 #![tactic(auto)]
 
 pub mod back;
@@ -19,7 +21,7 @@ use base::Range;
 use event::TrackEventKind;
 use header::SmpteTime;
 use header::signed::to_byte;
-use meta::{MetaMessage, OptionU16};
+use meta::MetaMessage;
 use midi::MidiMessage;
 
 // How many cells a row has.
@@ -56,7 +58,8 @@ fn fields(kind: u16, a: u32, b: u16, c: u8, d: u8) -> Row
     }
 }
 
-// The row of a kind whose fields are bytes, with no payload.
+// The row of a kind whose fields are bytes, with no payload. Numbers are widened by `as` in this file: `From` would do for
+// some of them alone, since none goes from a `usize` to a `u64`, and is no plainer for the others beside them.
 fn bytes(kind: u16, a: u8, b: u8, c: u8, d: u8) -> Row
     ensures { row_numbers result ≡ kind ∷ a ∷ b ∷ c ∷ d ∷ 0 ∷ 0 ∷ 0 ∷ 0 ∷ [] }
 {
@@ -101,12 +104,12 @@ fn midi_row(channel: u8, message: MidiMessage) -> Row
 }
 
 // The row of a track number: 1 and the number where it is there, 0 and 0 where it is missing.
-fn number_row(n: OptionU16) -> Row
+fn number_row(n: Option<u16>) -> Row
     ensures { row_numbers result ≡ meta_row (number_meta n) }
 {
     match n {
-        OptionU16::Some(x) => fields(0x100, 1, x, 0, 0),
-        OptionU16::None => bytes(0x100, 0, 0, 0, 0),
+        Some(x) => fields(0x100, 1, x, 0, 0),
+        None => bytes(0x100, 0, 0, 0, 0),
     }
 }
 
@@ -128,14 +131,12 @@ fn time_row(t: SmpteTime) -> Row
     }
 }
 
-// The row of a key signature: the byte of its sharps, then 1 for minor and 0 for major.
+// The row of a key signature: the byte of its sharps, then 1 for minor and 0 for major. What may not change: the `bool` is
+// the Rust's, as `MetaMessage::KeySignature` holds it.
 fn key_row(sharps: i8, minor: bool) -> Row
     ensures { row_numbers result ≡ meta_row (key_signature sharps minor) }
 {
-    if minor {
-        return bytes(0x159, to_byte(sharps), 1, 0, 0);
-    }
-    bytes(0x159, to_byte(sharps), 0, 0, 0)
+    bytes(0x159, to_byte(sharps), u8::from(minor), 0, 0)
 }
 
 // The row of a meta message: its number is 0x100 and its type, and 0x200 for `Unknown`.

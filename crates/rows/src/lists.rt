@@ -12,7 +12,7 @@ ghost use Rattle.rows.specs.Read.{read_sheet, rows_left, laid_next, laid_of};
 use crate::short::{short_at, short_row};
 use crate::{WIDTH, event_row};
 use base::{Refusal, Rules, Running};
-use track::cursor::{Cursor, Next, Stop};
+use track::cursor::{Cursor, Stop};
 use track::list::CAPACITY;
 
 // How many cells the rows of a full list take.
@@ -29,15 +29,6 @@ pub struct RowsRead {
     pub padding: usize,
 }
 
-// What reading a list into rows answers.
-#[derive(Clone, Copy)]
-pub enum ReadRows {
-    // the rows were laid into the cells
-    Rows(RowsRead),
-    // 20: the cells are too few, and stay as they came
-    Refused(Refusal),
-}
-
 // A row that was laid: where the reader is behind its event, and the event's padding.
 #[derive(Clone, Copy)]
 pub struct RowLaid {
@@ -45,75 +36,55 @@ pub struct RowLaid {
     pub padding: usize,
 }
 
-// What laying the row of the next event answers.
-#[derive(Clone, Copy)]
-pub enum Laid {
-    // it was laid
-    On(RowLaid),
-    // there is no next event, and why; the cells stay as they are
-    Stop(Stop),
-}
-
 // Lays a row into cells from a place on.
 fn put_row(rows: &mut [u64], at: usize, row: [u64; WIDTH])
     requires { at + width ≤ length rows.old }
     ensures { rows.new ≡ over row rows.old at }
 {
-    let mut i: usize = 0;
-    while i < WIDTH {
-        rows[at + i] = row[i];
-        i += 1;
-    }
+    rows[at..at + WIDTH].copy_from_slice(&row);
 }
 
-// Copies the first so many cells into the first cells of others.
-fn copy_cells(cells: &[u64], n: usize, rows: &mut [u64])
-    requires { (n ≤ length cells.now) × (n ≤ length rows.old) }
-    ensures { rows.new ≡ over (take n cells.now) rows.old 0 }
+// Copies cells into the first cells of others.
+fn copy_cells(cells: &[u64], rows: &mut [u64])
+    requires { length cells.now ≤ length rows.old }
+    ensures { rows.new ≡ over cells.now rows.old 0 }
 {
-    let mut i: usize = 0;
-    while i < n {
-        rows[i] = cells[i];
-        i += 1;
-    }
+    rows[..cells.len()].copy_from_slice(cells);
 }
 
-// Lays the row of the next event, whatever it is: the general way.
-fn lay_any(raw: &[u8], cursor: Cursor, rules: Rules, rows: &mut [u64]) -> Laid
+// Lays the row of the next event, whatever it is: the general way. That the cells are enough for a full list stands in each
+// of the three contracts from here on: a struct for it would hold a `&mut` that is lent anew at each call, and is no plainer.
+fn lay_any(raw: &[u8], cursor: Cursor, rules: Rules, rows: &mut [u64]) -> Result<RowLaid, Stop>
     requires { capacity * width ≤ length rows.old }
     ensures { laid_of result rows.new ≡ laid_next (next_at (rules_of rules) capacity raw.now (reader_of cursor)) cursor.count rows.old }
 {
-    match cursor.next(raw, rules) {
-        Next::Stop(why) => Laid::Stop(why),
-        Next::Event(step) => {
-            let event = step.event;
-            let kind = event.kind;
-            let behind = step.cursor;
-            put_row(rows, cursor.count * WIDTH, event_row(event.delta.0, kind));
-            Laid::On(RowLaid {
-                cursor: behind,
-                padding: step.padding,
-            })
-        }
-    }
+    let step = cursor.next(raw, rules)?;
+    let event = step.event;
+    put_row(
+        rows,
+        cursor.count * WIDTH,
+        event_row(event.delta.0, event.kind),
+    );
+    Ok(RowLaid {
+        cursor: step.cursor,
+        padding: step.padding,
+    })
 }
 
 // Lays the row of the next event: of a short one straight from its bytes, of any other the general way, which also says
 // why reading stops.
-fn lay_next(raw: &[u8], cursor: Cursor, rules: Rules, rows: &mut [u64]) -> Laid
+fn lay_next(raw: &[u8], cursor: Cursor, rules: Rules, rows: &mut [u64]) -> Result<RowLaid, Stop>
     requires { (is_running cursor.running.status ≡ true) × (capacity * width ≤ length rows.old) }
     ensures { laid_of result rows.new ≡ laid_next (next_at (rules_of rules) capacity raw.now (reader_of cursor)) cursor.count rows.old }
 {
     let place = cursor.place;
     let running = cursor.running;
-    let short = short_at(raw, place, running);
-    let used = short.used;
-    if used == 0 {
+    let Some(short) = short_at(raw, place, running) else {
         return lay_any(raw, cursor, rules, rows);
-    }
+    };
     let count = cursor.count;
     if CAPACITY <= count {
-        return Laid::Stop(Stop::Full);
+        return Err(Stop::Full);
     }
     let status = short.status;
     put_row(
@@ -123,10 +94,10 @@ fn lay_next(raw: &[u8], cursor: Cursor, rules: Rules, rows: &mut [u64]) -> Laid
     );
     let behind = Cursor {
         running: Running { status },
-        place: place + used,
+        place: place + short.used,
         count: count + 1,
     };
-    Laid::On(RowLaid {
+    Ok(RowLaid {
         cursor: behind,
         padding: 0,
     })
@@ -136,7 +107,7 @@ fn lay_next(raw: &[u8], cursor: Cursor, rules: Rules, rows: &mut [u64]) -> Laid
 // read.
 fn lay_rows(raw: &[u8], at: usize, running: Running, rules: Rules, rows: &mut [u64]) -> RowsRead
     requires { capacity * width ≤ length rows.old }
-    ensures { rows_left (ReadRows.Rows result) rows.new ≡ read_sheet (list_at (rules_of rules) capacity running.status raw.now at) rows.old }
+    ensures { rows_left (Ok result) rows.new ≡ read_sheet (list_at (rules_of rules) capacity running.status raw.now at) rows.old }
 {
     let mut cursor = Cursor {
         running,
@@ -146,40 +117,44 @@ fn lay_rows(raw: &[u8], at: usize, running: Running, rules: Rules, rows: &mut [u
     let mut padding: usize = 0;
     let mut stop = Stop::Refused(Refusal::RunningStatus);
     if running.is_valid() {
+        // A `for` has nothing to count here, and a `while let Ok(next)` would lose why the loop is left.
         stop = loop {
             match lay_next(raw, cursor, rules, rows) {
-                Laid::Stop(why) => {
-                    break why;
-                }
-                Laid::On(next) => {
+                Err(why) => break why,
+                Ok(next) => {
                     padding += next.padding;
                     cursor = next.cursor;
                 }
             }
         };
     }
-    let after = cursor.running;
     RowsRead {
         count: cursor.count,
         stop,
         place: cursor.place,
-        running: after,
+        running: cursor.running,
         padding,
     }
 }
 
 // Where there are fewer cells than a full list needs: the rows are laid into cells of their own, and copied where they fit.
-fn fit_rows(raw: &[u8], at: usize, running: Running, rules: Rules, rows: &mut [u64]) -> ReadRows
+fn fit_rows(
+    raw: &[u8],
+    at: usize,
+    running: Running,
+    rules: Rules,
+    rows: &mut [u64],
+) -> Result<RowsRead, Refusal>
     ensures { rows_left result rows.new ≡ read_sheet (list_at (rules_of rules) capacity running.status raw.now at) rows.old }
 {
     let mut cells = [0u64; CELLS];
     let read = lay_rows(raw, at, running, rules, &mut cells);
     let n = read.count * WIDTH;
     if rows.len() < n {
-        return ReadRows::Refused(Refusal::NoRoom);
+        return Err(Refusal::NoRoom);
     }
-    copy_cells(&cells, n, rows);
-    ReadRows::Rows(read)
+    copy_cells(&cells[..n], rows);
+    Ok(read)
 }
 
 // The list at a place, from a running status: its rows, and where reading stopped. The rows before a refused event
@@ -190,11 +165,11 @@ pub fn read_rows(
     running: Running,
     rules: Rules,
     rows: &mut [u64],
-) -> ReadRows
+) -> Result<RowsRead, Refusal>
     ensures { rows_left result rows.new ≡ read_sheet (list_at (rules_of rules) capacity running.status raw.now at) rows.old }
 {
     if rows.len() < CELLS {
         return fit_rows(raw, at, running, rules, rows);
     }
-    ReadRows::Rows(lay_rows(raw, at, running, rules, rows))
+    Ok(lay_rows(raw, at, running, rules, rows))
 }

@@ -8,7 +8,7 @@ use crate::short::{short_at, short_row};
 use crate::{WIDTH, event_row};
 use base::{Rules, Running};
 use event::TrackEvent;
-use event::read::{EventRefused, ReadEvent};
+use event::read::EventRefused;
 
 // What is told of an event beside its row.
 #[derive(Clone, Copy)]
@@ -21,15 +21,6 @@ pub struct RowRead {
     pub padding: usize,
 }
 
-// What reading an event into a row answers.
-#[derive(Clone, Copy)]
-pub enum ReadRow {
-    // the event stands in the row
-    Row(RowRead),
-    // 1 to 14, and what is left; the row stays as it came
-    Refused(EventRefused),
-}
-
 // Reads an event into a row, whatever it is: the general way.
 fn read_any(
     raw: &[u8],
@@ -37,24 +28,18 @@ fn read_any(
     running: Running,
     rules: Rules,
     row: &mut [u64; WIDTH],
-) -> ReadRow
+) -> Result<RowRead, EventRefused>
     ensures answer { row_told result ≡ beside_row (event_at (rules_of rules) running.status raw.now at) }
     ensures row { row.new ≡ read_row (event_at (rules_of rules) running.status raw.now at) row.old }
 {
-    match TrackEvent::read(raw, at, running, rules) {
-        ReadEvent::Refused(n) => ReadRow::Refused(n),
-        ReadEvent::Event(e) => {
-            let event = e.event;
-            let kind = event.kind;
-            let after = e.running;
-            *row = event_row(event.delta.0, kind);
-            ReadRow::Row(RowRead {
-                used: e.used,
-                running: after,
-                padding: e.padding,
-            })
-        }
-    }
+    let e = TrackEvent::read(raw, at, running, rules)?;
+    let event = e.event;
+    *row = event_row(event.delta.0, event.kind);
+    Ok(RowRead {
+        used: e.used,
+        running: e.running,
+        padding: e.padding,
+    })
 }
 
 // The event at a place, from a running status, read into a row: of a short one the row is made straight from its bytes, of
@@ -65,18 +50,16 @@ pub fn read_row(
     running: Running,
     rules: Rules,
     row: &mut [u64; WIDTH],
-) -> ReadRow
+) -> Result<RowRead, EventRefused>
     ensures answer { row_told result ≡ beside_row (event_at (rules_of rules) running.status raw.now at) }
     ensures row { row.new ≡ read_row (event_at (rules_of rules) running.status raw.now at) row.old }
 {
     if running.is_valid() {
-        let short = short_at(raw, at, running);
-        let used = short.used;
-        if used != 0 {
+        if let Some(short) = short_at(raw, at, running) {
             let status = short.status;
             *row = short_row(raw[at], status, short.a, short.b);
-            return ReadRow::Row(RowRead {
-                used,
+            return Ok(RowRead {
+                used: short.used,
                 running: Running { status },
                 padding: 0,
             });

@@ -12,7 +12,7 @@ use base::Running;
 // A channel message with a delta of one byte.
 #[derive(Clone, Copy)]
 pub struct Short {
-    // how many bytes it has; 0 where none was found
+    // how many bytes it has
     pub used: usize,
     // its status, which is the running status after it
     pub status: u8,
@@ -21,65 +21,53 @@ pub struct Short {
     pub b: u8,
 }
 
-// What is found where there is no short event.
-fn other() -> Short
-    ensures { result.used ≡ 0 }
-{
-    Short {
-        used: 0,
-        status: 0,
-        a: 0,
-        b: 0,
-    }
-}
-
 // The data of a channel message, whose status is 80..EF and whose event began at a place.
-fn short_data(raw: &[u8], at: usize, place: usize, status: u8) -> Short
+fn short_data(raw: &[u8], at: usize, place: usize, status: u8) -> Option<Short>
     requires { (at ≤ place) × (place + 2 ≤ length raw.now) }
-    ensures { ShortData raw.now at place status result.used result.status result.a result.b }
+    ensures { ShortData raw.now at place status result }
 {
     let a = raw[place];
     if 0x80 <= a {
-        return other();
+        return None;
     }
     if status / 32 == 6 { // C0..DF have one data byte
-        return Short {
+        return Some(Short {
             used: place + 1 - at,
             status,
             a,
             b: 0,
-        };
+        });
     }
     let b = raw[place + 1];
     if 0x80 <= b {
-        return other();
+        return None;
     }
-    Short {
+    Some(Short {
         used: place + 2 - at,
         status,
         a,
         b,
-    }
+    })
 }
 
 // The short event at a place, from a running status that is valid. Near the end of the bytes none is looked for: four
 // bytes are the most that one can have, and then each of them is there.
-pub fn short_at(raw: &[u8], at: usize, running: Running) -> Short
+pub fn short_at(raw: &[u8], at: usize, running: Running) -> Option<Short>
     requires { is_running running.status ≡ true }
-    ensures { ShortAt raw.now at running.status result.used result.status result.a result.b }
+    ensures { ShortAt raw.now at running.status result }
 {
     if raw.len() < 4 {
-        return other();
+        return None;
     }
     if raw.len() - 4 < at {
-        return other();
+        return None;
     }
     if 0x80 <= raw[at] {
-        return other();
+        return None;
     }
     let byte = raw[at + 1];
     if 0xF0 <= byte {
-        return other();
+        return None;
     }
     // With a status byte of its own and without: the two ways meet, so that no branch is taken on which it is.
     let mut status = running.status;
@@ -88,13 +76,13 @@ pub fn short_at(raw: &[u8], at: usize, running: Running) -> Short
         status = byte;
         place = at + 2;
     }
-    if status == 0 {
-        return other();
+    if status == 0 { // none, by the 0 of `base::Running`, the lent running status that docs/RULES.md names
+        return None;
     }
     short_data(raw, at, place, status)
 }
 
-// The row of a short event.
+// The row of a short event. Its status is 80..EF, as in `event`: a type that says so would be public and could not demand it.
 pub fn short_row(delta: u8, status: u8, a: u8, b: u8) -> [u64; WIDTH]
     requires { (0x80 ≤ status) × (status < 0xF0) × (status / 32 ≡ 6 → b ≡ 0) }
     ensures { result ≡ event_row (short_event delta status a b) }

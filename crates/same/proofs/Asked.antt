@@ -1,5 +1,10 @@
 -- What is asked of rows, by what each is, and what rows tell that are events'.
-use mathlib.Core.Path.{◌≡◌, ap}
+use Rattle.std.specs.Prelude.{Result, Ok, Err}
+use Rattle.std.specs.Result.{is_err}
+use Rattle.base.specs.declared.Refusal.{Refusal}
+use Rattle.event.specs.declared.TrackEvent.{TrackEvent}
+use Rattle.rows.specs.RowAnswer.{row_answer}
+use mathlib.Core.Path.{◌≡◌, sym, ap}
 use mathlib.Core.Bool.{Bool, true, false}
 use mathlib.Core.List.{List}
 use Prim.Native.Nat.{ℕ, ◌<◌, ◌≤◌}
@@ -15,6 +20,15 @@ use Rattle.rows.specs.RowLists.{are_rows}
 use Rattle.rows.proofs.IsRow.{is_event, is_none}
 use Rattle.same.specs.Same.{Tells}
 use Rattle.same.specs.OfRows.{rows_asked, lists_asked, SameGiven}
+
+-- a row, by whether it gave an event
+pub a_row : (r : Result TrackEvent Refusal) (a : List ℕ) → row_answer r ≡ event_of_row a → is_err r ≡ false → is_row a ≡ true
+a_row (Ok x) a says e = (is_event a (sym says)).0
+a_row (Err n) a says e = cc
+
+pub no_row : (r : Result TrackEvent Refusal) (a : List ℕ) → row_answer r ≡ event_of_row a → is_err r ≡ true → is_row a ≡ false
+no_row (Ok x) a says e = cc
+no_row (Err n) a says e = (is_none a (sym says)).0
 
 -- two rows
 module _ (a b : List ℕ) where

@@ -1,5 +1,6 @@
 -- From the numbers of a row and the bytes of its payload back to the kind: kinds are the same where their numbers and bytes agree,
 -- and nowhere else.
+use Rattle.std.specs.Prelude.{None, Some}
 use mathlib.Core.Path.{◌≡◌, refl, sym, ap, ap₂, subst, ◌∙◌}
 use mathlib.Core.Bool.{Bool, true, false}
 use mathlib.Core.List.{List, []}
@@ -20,7 +21,6 @@ use Rattle.smf.specs.Kind as kind
 use Rattle.smf.specs.Event.{map_meta, map_kind, meta_carries, carries, kind_load, no_span}
 use Rattle.smf.proofs.Signed.{signed_back}
 use Rattle.midi.specs.declared.MidiMessage.TheVariants as midi
-use Rattle.meta.specs.declared.OptionU16.TheVariants as option
 use Rattle.meta.specs.declared.MetaMessage.TheVariants as meta
 use Rattle.event.specs.Event.{kind_of}
 use Rattle.event.specs.declared.TrackEventKind.{TrackEventKind}
@@ -96,8 +96,8 @@ kind_back s (track.Midi channel (midi.ChannelAftertouch vel)) vs h = refl
 kind_back s (track.Midi channel (midi.PitchBend bend)) vs h = refl
 kind_back s (track.SysEx r) vs h = refl
 kind_back s (track.Escape r) vs h = refl
-kind_back s (track.Meta (meta.TrackNumber (option.Some n))) vs h = refl
-kind_back s (track.Meta (meta.TrackNumber option.None)) vs h = refl
+kind_back s (track.Meta (meta.TrackNumber (Some n))) vs h = refl
+kind_back s (track.Meta (meta.TrackNumber None)) vs h = refl
 kind_back s (track.Meta (meta.Text r)) vs h = refl
 kind_back s (track.Meta (meta.Copyright r)) vs h = refl
 kind_back s (track.Meta (meta.TrackName r)) vs h = refl

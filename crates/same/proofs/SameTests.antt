@@ -3,12 +3,9 @@ use mathlib.Core.Path.{◌≡◌, refl, ap, ap₂, subst}
 use mathlib.Core.Bool.{Bool, true, false}
 use mathlib.Core.List.{List}
 use Prim.Native.Nat.{ℕ}
-use lib.Dec.{eqb}
-use borrow.Author.Tests.{eqb-true, eqb-false}
 use Rattle.smf.specs.Place.{Span, bytes_of}
 use Rattle.smf.specs.Event.{Event, event, map_kind, map_event, Same}
-use Rattle.rows.specs.declared.Row.{Row}
-use Rattle.same.specs.Same.{Tells, row_fields}
+use Rattle.same.specs.Same.{Tells}
 
 -- by the test's value
 tells : (Rule : Type 0) (r : Bool) → (r ≡ true → Rule) → (r ≡ false → Rule → ⊥) → Tells r Rule
@@ -19,15 +16,6 @@ tells Rule false holds fails = fails refl
 pub tells_too : (Rule Other : Type 0) (r : Bool) → Tells r Rule → (Rule → Other) → (Other → Rule) → Tells r Other
 tells_too Rule Other true holds to from = to holds
 tells_too Rule Other false fails to from = λ other. fails (from other)
-
--- a test of two numbers tells of a rule that holds where they agree, and nowhere else
-tells_equal : (Rule : Type 0) (a b : ℕ) → (a ≡ b → Rule) → (Rule → a ≡ b) → Tells (eqb a b) Rule
-tells_equal Rule a b to from = tells Rule (eqb a b) (λ e. to (eqb-true a b e)) (λ e rule. eqb-false a b e (from rule))
-
--- where the other numbers of two rows agree, the last field tells
-pub last_tells : (a b : Row) → a.kind ≡ b.kind → a.a ≡ b.a → a.b ≡ b.b → a.c ≡ b.c → a.d ≡ b.d → a.e ≡ b.e
-    → Tells (eqb a.f b.f) (row_fields a ≡ row_fields b)
-last_tells a b k p q r s t = tells_equal (row_fields a ≡ row_fields b) a.f b.f (λ e. cc) (λ e. cc)
 
 -- unequal deltas tell two events apart, and where they agree the kinds tell
 module _ (s : List ℕ) (e : Event Span) (t : List ℕ) (f : Event Span) where

@@ -14,92 +14,48 @@ use rows::{Row, kind_row};
 pub mod lists;
 pub mod of_rows;
 
-// How many bytes of a range there are.
-fn held(bytes: &[u8], start: usize, size: usize) -> usize
-    ensures { result ≡ length (bytes_of bytes.now (span start size)) }
+// The bytes of a range; of one that is not inside, those that there are.
+fn part(bytes: &[u8], start: usize, size: usize) -> &[u8]
+    ensures { result.now ≡ bytes_of bytes.now (span start size) }
 {
-    if bytes.len() <= start {
-        return 0;
-    }
-    let left = bytes.len() - start;
-    if left < size {
-        return left;
-    }
-    size
+    let rest = &bytes[start.min(bytes.len())..];
+    &rest[..size.min(rest.len())]
 }
 
-// Whether so many bytes from one place on agree with as many from another.
-fn agree(a: &[u8], a_start: usize, b: &[u8], b_start: usize, size: usize) -> bool
-    requires size_in_bounds { size ≤ length a.now - a_start }
-    requires size_in_bounds_2 { size ≤ length b.now - b_start }
-    ensures { Tells result (bytes_of a.now (span a_start size) ≡ bytes_of b.now (span b_start size)) }
-{
-    let mut i = 0;
-    while i < size {
-        if a[a_start + i] != b[b_start + i] {
-            return false;
-        }
-        i += 1;
-    }
-    true
-}
-
-// Whether the payload bytes agree; of a range that is not inside, those that there are.
+// Whether the payload bytes agree.
 fn same_load(a: Row, a_bytes: &[u8], b: Row, b_bytes: &[u8]) -> bool
     ensures { Tells result (bytes_of a_bytes.now (load_span a) ≡ bytes_of b_bytes.now (load_span b)) }
 {
-    let size = held(a_bytes, a.start, a.length);
-    if held(b_bytes, b.start, b.length) != size {
-        return false;
-    }
-    agree(a_bytes, a.start, b_bytes, b.start, size)
+    part(a_bytes, a.start, a.length) == part(b_bytes, b.start, b.length)
 }
 
-// Whether the kind's number and the six fields agree; starts and lengths are not looked at.
+// Whether the kind's number and the six fields agree; starts and lengths are not looked at, so that a derived equality
+// would not do.
 fn same_fields(a: Row, b: Row) -> bool
     ensures { Tells result (row_fields a ≡ row_fields b) }
 {
-    if a.kind != b.kind {
-        return false;
-    }
-    if a.a != b.a {
-        return false;
-    }
-    if a.b != b.b {
-        return false;
-    }
-    if a.c != b.c {
-        return false;
-    }
-    if a.d != b.d {
-        return false;
-    }
-    if a.e != b.e {
-        return false;
-    }
-    a.f == b.f
+    a.kind == b.kind
+        && a.a == b.a
+        && a.b == b.b
+        && a.c == b.c
+        && a.d == b.d
+        && a.e == b.e
+        && a.f == b.f
 }
 
-// Whether two kinds are the same: their fields and their payload bytes.
+// Whether two kinds are the same: their fields and their payload bytes. Each stands beside the bytes that it was read from,
+// as the public functions are given them: a struct of the two would be no plainer, since each call had to make two.
 fn same_kind(a: TrackEventKind, a_bytes: &[u8], b: TrackEventKind, b_bytes: &[u8]) -> bool
     ensures { Tells result (map_kind (bytes_of a_bytes.now) (kind_of a) ≡ map_kind (bytes_of b_bytes.now) (kind_of b)) }
 {
     let a_row = kind_row(a);
     let b_row = kind_row(b);
-    if same_fields(a_row, b_row) {
-        return same_load(a_row, a_bytes, b_row, b_bytes);
-    }
-    false
+    same_fields(a_row, b_row) && same_load(a_row, a_bytes, b_row, b_bytes)
 }
 
 // Two events are the same when deltas, kinds, fields and payload bytes agree; starts don't count.
 pub fn same_event(a: TrackEvent, a_bytes: &[u8], b: TrackEvent, b_bytes: &[u8]) -> bool
     ensures { Tells result (Same a_bytes.now (event_of a) b_bytes.now (event_of b)) }
 {
-    if a.delta.0 != b.delta.0 {
-        return false;
-    }
-    let a_kind = a.kind;
-    let b_kind = b.kind;
-    same_kind(a_kind, a_bytes, b_kind, b_bytes)
+    a.delta.0 == b.delta.0 && same_kind(a.kind, a_bytes, b.kind, b_bytes)
 }

@@ -12,28 +12,21 @@ use track::list::{CAPACITY, EventList, Record};
 fn same_record(a: Record, a_bytes: &[u8], b: Record, b_bytes: &[u8]) -> bool
     ensures { Tells result (Same a_bytes.now (record_of a) b_bytes.now (record_of b)) }
 {
-    let a_event = a.event;
-    let b_event = b.event;
-    same_event(a_event, a_bytes, b_event, b_bytes)
+    same_event(a.event, a_bytes, b.event, b_bytes)
 }
 
-// Two lists are the same when their counts agree and each two events that count are the same.
+// Two lists are the same when their counts agree and each two events that count are the same. A record has no `==`, since two
+// events are the same over the bytes of each; an `all` over two arrays at once would zip and take first, and is no plainer.
 pub fn same_list(a: EventList, a_bytes: &[u8], b: EventList, b_bytes: &[u8]) -> bool
     ensures { Tells result (SameList a_bytes.now (map record_of a.records) a.count b_bytes.now (map record_of b.records) b.count) }
 {
-    let count = a.count;
-    if b.count != count {
+    if b.count != a.count {
         return false; // another count
     }
-    let mut i: usize = 0;
-    while i < count {
-        if CAPACITY <= i { // a count may be above what the list holds
-            return true;
-        }
+    for i in 0..a.count.min(CAPACITY) { // a count may be above what the list holds
         if !same_record(a.records[i], a_bytes, b.records[i], b_bytes) {
             return false;
         }
-        i += 1;
     }
     true
 }

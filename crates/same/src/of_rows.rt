@@ -13,57 +13,48 @@ ghost use Rattle.same.specs.OfRows.{Says, rows_asked, lists_asked, SameGiven};
 use crate::same_event;
 use base::Refusal;
 use rows::WIDTH;
-use rows::back::{RowEvent, row_event, row_event_at};
+use rows::back::{row_event, row_event_at};
 use track::list::CAPACITY;
 
-// What comparing rows answers.
-#[derive(Clone, Copy)]
-pub enum Sameness {
-    // whether the events, or lists, are the same
-    Told(bool),
-    // 21 or 18: something that is no list, or no event, cannot be compared
-    Refused(Refusal),
-}
-
 // Whether the events of two rows are the same; 18 where one is no event's.
-pub fn same_rows(a: [u64; WIDTH], a_bytes: &[u8], b: [u64; WIDTH], b_bytes: &[u8]) -> Sameness
+pub fn same_rows(
+    a: [u64; WIDTH],
+    a_bytes: &[u8],
+    b: [u64; WIDTH],
+    b_bytes: &[u8],
+) -> Result<bool, Refusal>
     ensures { Says result (rows_asked a b) (Same a_bytes.now (called_row a) b_bytes.now (called_row b)) }
 {
-    match row_event(a) {
-        RowEvent::Refused(refusal) => Sameness::Refused(refusal),
-        RowEvent::Event(x) => match row_event(b) {
-            RowEvent::Refused(refusal) => Sameness::Refused(refusal),
-            RowEvent::Event(y) => Sameness::Told(same_event(x, a_bytes, y, b_bytes)),
-        },
-    }
+    let x = row_event(a)?;
+    let y = row_event(b)?;
+    Ok(same_event(x, a_bytes, y, b_bytes))
 }
 
-// Whether the rows that start at a cell of each are events', and the same.
+// Whether the rows that start at a cell of each are events', and the same. The two refusals lead to one answer and give the
+// two events: as one condition they would be read twice.
 fn same_at(a: &[u64], a_bytes: &[u8], b: &[u64], b_bytes: &[u8], at: usize) -> bool
     ensures { Tells result (SameGiven a_bytes.now (event_of_row (take width (drop at a.now))) b_bytes.now (event_of_row (take width (drop at b.now)))) }
 {
-    match row_event_at(a, at) {
-        RowEvent::Refused(_) => false,
-        RowEvent::Event(x) => match row_event_at(b, at) {
-            RowEvent::Refused(_) => false,
-            RowEvent::Event(y) => same_event(x, a_bytes, y, b_bytes),
-        },
-    }
+    let Ok(x) = row_event_at(a, at) else {
+        return false;
+    };
+    let Ok(y) = row_event_at(b, at) else {
+        return false;
+    };
+    same_event(x, a_bytes, y, b_bytes)
 }
 
-// Whether so many rows are events'.
+// Whether so many rows are events'. The C interface has rows with a count beside them, and their cells need not all be there.
+// Tried as an `all` over the indices: what its closure promises is not found unless the look at one row is a function of its
+// own, and then it is no plainer than the loop, here and below.
 fn are_rows(cells: &[u64], count: usize) -> bool
     requires { count ≤ capacity }
     ensures { result ≡ are_rows count cells.now }
 {
-    let mut left = count;
-    let mut at: usize = 0;
-    while 0 < left {
-        if let RowEvent::Refused(_) = row_event_at(cells, at) {
+    for index in 0..count {
+        if row_event_at(cells, index * WIDTH).is_err() {
             return false;
         }
-        at += WIDTH; // the next row
-        left -= 1;
     }
     true
 }
@@ -75,14 +66,10 @@ fn same_all(a: &[u64], a_bytes: &[u8], b: &[u64], b_bytes: &[u8], count: usize) 
     requires b_value { are_rows count b.now ≡ true }
     ensures { Tells result (SameList a_bytes.now (called_rows count a.now) count b_bytes.now (called_rows count b.now) count) }
 {
-    let mut left = count;
-    let mut at: usize = 0;
-    while 0 < left {
-        if !same_at(a, a_bytes, b, b_bytes, at) {
+    for index in 0..count {
+        if !same_at(a, a_bytes, b, b_bytes, index * WIDTH) {
             return false;
         }
-        at += WIDTH; // the next of each
-        left -= 1;
     }
     true
 }
@@ -96,23 +83,17 @@ pub fn same_row_lists(
     b: &[u64],
     b_count: usize,
     b_bytes: &[u8],
-) -> Sameness
+) -> Result<bool, Refusal>
     ensures { Says result (lists_asked capacity a.now a_count b.now b_count) (SameList a_bytes.now (called_rows a_count a.now) a_count b_bytes.now (called_rows b_count b.now) b_count) }
 {
-    if CAPACITY < a_count {
-        return Sameness::Refused(Refusal::TooManyEvents);
+    if CAPACITY < a_count || CAPACITY < b_count {
+        return Err(Refusal::TooManyEvents);
     }
-    if CAPACITY < b_count {
-        return Sameness::Refused(Refusal::TooManyEvents);
-    }
-    if !are_rows(a, a_count) {
-        return Sameness::Refused(Refusal::AboveWidth); // of the first
-    }
-    if !are_rows(b, b_count) {
-        return Sameness::Refused(Refusal::AboveWidth);
+    if !are_rows(a, a_count) || !are_rows(b, b_count) {
+        return Err(Refusal::AboveWidth);
     }
     if a_count != b_count {
-        return Sameness::Told(false);
+        return Ok(false);
     }
-    Sameness::Told(same_all(a, a_bytes, b, b_bytes, a_count))
+    Ok(same_all(a, a_bytes, b, b_bytes, a_count))
 }

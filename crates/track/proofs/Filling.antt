@@ -1,4 +1,5 @@
 -- What the list reader's loop keeps: the events so far are those that its records hold, and their padding is the sum so far.
+use Rattle.std.specs.Prelude.{Err, Ok, Result}
 use mathlib.Core.Path.{◌≡◌, ap, sym, subst, ◌∙◌}
 use mathlib.Core.Bool.{true, false}
 use mathlib.Core.List.{List, [], ◌∷◌, ◌++◌, map}
@@ -15,8 +16,6 @@ use Rattle.event.specs.Event.{event_of}
 use Rattle.track.specs.List.{record_of}
 use Rattle.track.specs.declared.list.Record.{Record}
 use Rattle.track.specs.Cursor.{stop_of, reader_of, next_of}
-use Rattle.track.specs.declared.cursor.Next.{Next}
-use Rattle.track.specs.declared.cursor.Next.TheVariants as next
 use Rattle.track.specs.declared.cursor.NextEvent.{NextEvent}
 use Rattle.track.specs.declared.cursor.Stop.{Stop}
 use Rattle.track.specs.Read.{list_read_of}
@@ -37,13 +36,13 @@ module _ (cap : ℕ) (rules : Rules) (s : List ℕ) (at first : ℕ) (xs : List 
   pub filling_first : is_running first ≡ true → Filling cap rules s at first xs 0 (reader_at at first)
   filling_first v = record { events = []; held = holds_none cap xs n e; sofar = begun cap rules s at first v }
 
-module _ {cap : ℕ} {rules : Rules} {s : List ℕ} {at first : ℕ} {xs : List Record} {padding : ℕ} {r : Reader} (h : Filling cap rules s at first xs padding r) (n : Next) (there : next_of n ≡ next_at rules cap s r) where
+module _ {cap : ℕ} {rules : Rules} {s : List ℕ} {at first : ℕ} {xs : List Record} {padding : ℕ} {r : Reader} (h : Filling cap rules s at first xs padding r) (n : Result NextEvent Stop) (there : next_of n ≡ next_at rules cap s r) where
   -- the answer, where the step stops
-  pub filled : (why : Stop) → n ≡ next.Stop why
+  pub filled : (why : Stop) → n ≡ Err why
       → record { list = record { records = map record_of xs; count = r.count }; stop = stop_of why; place = r.place; running = r.running; padding = padding } ≡ held_as cap (list_at rules cap first s at)
   filled why e = rw (all h.sofar (sym there ∙ ap next_of e), ← h.held)
 
-  pub filling_more : (step : NextEvent) → n ≡ next.Event step → (x : Record) → record_of x ≡ event_of step.event → Filling cap rules s at first (set xs r.count x) (padding + step.padding) (reader_of step.cursor)
+  pub filling_more : (step : NextEvent) → n ≡ Ok step → (x : Record) → record_of x ≡ event_of step.event → Filling cap rules s at first (set xs r.count x) (padding + step.padding) (reader_of step.cursor)
   filling_more step e x kept =
       let own = event_of step.event in
       let is = sym there ∙ ap next_of e in

@@ -1,4 +1,6 @@
 -- No two answers of the list reader, and of its step, say the same.
+use Rattle.track.specs.declared.cursor.NextEvent.{NextEvent}
+use Rattle.std.specs.Prelude.{Err, Ok, Result}
 use mathlib.Core.Path.{◌≡◌, refl, ap}
 use mathlib.Core.List.{List, [], ◌∷◌, map}
 use Rattle.smf.specs.Lists as smf
@@ -14,8 +16,6 @@ use Rattle.track.specs.Cursor.{stop_of, next_of}
 use Rattle.track.specs.Read.{list_read_of}
 use Rattle.track.specs.declared.list.EventList.{EventList}
 use Rattle.track.specs.declared.cursor.Cursor.{Cursor}
-use Rattle.track.specs.declared.cursor.Next.{Next}
-use Rattle.track.specs.declared.cursor.Next.TheVariants as next
 use Rattle.track.specs.declared.cursor.Stop.{Stop}
 use Rattle.track.specs.declared.cursor.Stop.TheVariants as stop
 use Rattle.track.specs.declared.read.ReadList.{ReadList}
@@ -49,14 +49,14 @@ same_stop (stop.Refused n) = ap stop.Refused (number_back n)
 back_reader : smf.Reader → Cursor
 back_reader r = record { place = r.place; running = record { status = r.running }; count = r.count }
 
-back_next : smf.Next → Next
-back_next (smf.takes e padding r) = next.Event (record { event = back_event e; padding = padding; cursor = back_reader r })
-back_next (smf.stops why) = next.Stop (back_stop why)
+back_next : smf.Next → Result NextEvent Stop
+back_next (smf.takes e padding r) = Ok (record { event = back_event e; padding = padding; cursor = back_reader r })
+back_next (smf.stops why) = Err (back_stop why)
 
-same_next : (n : Next) → back_next (next_of n) ≡ n
+same_next : (n : Result NextEvent Stop) → back_next (next_of n) ≡ n
 unfolding back_next back_reader
-same_next (next.Event step) = ap (λ (e : TrackEvent). next.Event (record { event = e; padding = step.padding; cursor = step.cursor })) (same_event step.event)
-same_next (next.Stop why) = ap next.Stop (same_stop why)
+same_next (Ok step) = ap (λ (e : TrackEvent). Ok (record { event = e; padding = step.padding; cursor = step.cursor })) (same_event step.event)
+same_next (Err why) = ap Err (same_stop why)
 
 back_list : smf.ListHeld → ReadList
 back_list l = record { list = back_held l.list; stop = back_stop l.stop; place = l.place; running = record { status = l.running }; padding = l.padding }
@@ -71,5 +71,5 @@ held_of_injective = injective held_of back_held same_held
 pub list_read_injective : {x y : ReadList} → list_read_of x ≡ list_read_of y → x ≡ y
 list_read_injective = injective list_read_of back_list same_list
 
-pub next_of_injective : {x y : Next} → next_of x ≡ next_of y → x ≡ y
+pub next_of_injective : {x y : Result NextEvent Stop} → next_of x ≡ next_of y → x ≡ y
 next_of_injective = injective next_of back_next same_next

@@ -8,7 +8,6 @@ ghost use Rattle.track.specs.Cursor.{reader_of, next_of};
 use crate::list::CAPACITY;
 use base::{Refusal, Rules, Running};
 use event::TrackEvent;
-use event::read::ReadEvent;
 
 // Why reading stopped.
 #[derive(Clone, Copy)]
@@ -44,49 +43,30 @@ pub struct NextEvent {
     pub event: TrackEvent,
 }
 
-// What a step answers.
-#[derive(Clone, Copy)]
-pub enum Next {
-    // the next event of the list
-    Event(NextEvent),
-    // there is none, and why. The cursor stays where it is, which is the place of a refused event
-    Stop(Stop),
-}
-
 impl Cursor {
     // Takes the next event of the list, or says why reading stops: at the end, else full, else refused. At the end of the
     // bytes the running status is not looked at: that 1 comes before all else is for the readers of lists to see to.
-    pub fn next(self, raw: &[u8], rules: Rules) -> Next
+    pub fn next(self, raw: &[u8], rules: Rules) -> Result<NextEvent, Stop>
         ensures { next_of result ≡ next_at (rules_of rules) capacity raw.now (reader_of self) }
     {
         let place = self.place;
-        let running = self.running;
         let count = self.count;
         if raw.len() <= place {
-            return Next::Stop(Stop::End);
+            return Err(Stop::End);
         }
         if CAPACITY <= count {
-            return Next::Stop(Stop::Full);
+            return Err(Stop::Full);
         }
-        match TrackEvent::read(raw, place, running, rules) {
-            ReadEvent::Refused(n) => {
-                let refusal = n.refusal;
-                Next::Stop(Stop::Refused(refusal))
-            }
-            ReadEvent::Event(e) => {
-                let event = e.event;
-                let after = e.running;
-                let cursor = Cursor {
-                    running: after,
-                    place: place + e.used,
-                    count: count + 1,
-                };
-                Next::Event(NextEvent {
-                    cursor,
-                    padding: e.padding,
-                    event,
-                })
-            }
-        }
+        let read = TrackEvent::read(raw, place, self.running, rules);
+        let e = read.map_err(|n| Stop::Refused(n.refusal))?;
+        Ok(NextEvent {
+            cursor: Cursor {
+                running: e.running,
+                place: place + e.used,
+                count: count + 1,
+            },
+            padding: e.padding,
+            event: e.event,
+        })
     }
 }

@@ -18,7 +18,7 @@ pub struct Record {
     pub event: TrackEvent,
 }
 
-// A list of events.
+// A list of events: an array of records and a count, a form that docs/RULES.md names.
 #[derive(Clone, Copy)]
 pub struct EventList {
     // the events from the first on; past the count the filler, delta 0 and `EndOfTrack`, which writers do not look at

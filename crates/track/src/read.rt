@@ -6,7 +6,7 @@ ghost use Rattle.base.specs.Rules.{rules_of};
 ghost use Rattle.track.specs.List.{capacity};
 ghost use Rattle.track.specs.Read.{list_read_of};
 
-use crate::cursor::{Cursor, Next, Stop};
+use crate::cursor::{Cursor, Stop};
 use crate::list::EventList;
 use crate::record::recorded;
 use base::{Refusal, Rules, Running};
@@ -40,16 +40,12 @@ impl EventList {
         let mut padding: usize = 0;
         let mut stop = Stop::Refused(Refusal::RunningStatus);
         if running.is_valid() {
+            // A `for` has nothing to count here, and a `while let Ok(step)` would lose why the loop is left.
             stop = loop {
                 match cursor.next(raw, rules) {
-                    Next::Stop(why) => {
-                        break why;
-                    }
-                    Next::Event(step) => {
-                        let event = step.event;
-                        let count = cursor.count;
-                        let kept = recorded(event);
-                        list.records[count] = kept;
+                    Err(why) => break why,
+                    Ok(step) => {
+                        list.records[cursor.count] = recorded(step.event);
                         padding += step.padding;
                         cursor = step.cursor;
                     }
@@ -57,12 +53,11 @@ impl EventList {
             };
         }
         list.count = cursor.count;
-        let after = cursor.running;
         ReadList {
             list,
             stop,
             place: cursor.place,
-            running: after,
+            running: cursor.running,
             padding,
         }
     }

@@ -1,4 +1,7 @@
-// The cells of a line's numbers and, behind them, of the numbers that the port answers.
+// The cells of a line's numbers and, behind them, of the numbers that the port answers. One array holds all lines in turn,
+// and no vector each: a line that gives fewer numbers than its letter asks for is asked with those that the lines before it
+// left, and the stored answers rest on that. What a line gives, its bytes and the cells go in side by side: a struct of them
+// would hold the cells as a `&mut` that is lent anew at each call, and is no plainer.
 use rows::WIDTH;
 
 // The most cells of a line.
@@ -12,7 +15,8 @@ pub const CELLS: usize = 4096;
 // The rules of a call that a line gives none for: no bit is set, and none would be looked at.
 pub const NO_RULES: u8 = 0;
 
-// What a line gives: its letter, its first numbers as bytes and as places, and the cell of the last.
+// What a line gives: its letter, its first numbers as bytes and as places, and the cell of the last. Fields stand for them and
+// no array: an entry takes bytes and places by turns, and `b2` says which.
 #[derive(Clone, Copy)]
 pub struct Given {
     pub letter: u8,
@@ -39,10 +43,10 @@ pub fn numbers(cells: &[u64; CELLS], last: usize) -> Given {
         b4: byte(cells[4]),
         b5: byte(cells[5]),
         b6: byte(cells[6]),
-        n1: place(cells[1]),
-        n2: place(cells[2]),
-        n3: place(cells[3]),
-        n4: place(cells[4]),
+        n1: cells[1] as usize,
+        n2: cells[2] as usize,
+        n3: cells[3] as usize,
+        n4: cells[4] as usize,
         last,
     }
 }
@@ -52,54 +56,17 @@ pub fn byte(n: u64) -> u8 {
     (n % 256) as u8
 }
 
-// A byte as a cell.
-pub fn wide(n: u8) -> u64 {
-    n as u64
-}
-
-// A cell as a place.
-pub fn place(n: u64) -> usize {
-    n as usize
-}
-
 // The numbers behind a cell, up to the last; none where they are not all there.
 pub fn part(cells: &[u64; CELLS], before: usize, last: usize) -> &[u64] {
     let all: &[u64] = cells;
-    if CELLS <= last {
-        return &all[CELLS..];
-    }
-    if last < before {
-        return &all[CELLS..];
-    }
-    let start = before + 1;
-    let stop = last + 1;
-    &all[start..stop]
-}
-
-// Numbers as bytes, and how many they are.
-pub fn narrow(numbers: &[u64], low: &mut [u8; LINE]) -> usize {
-    let mut i: usize = 0;
-    while i < numbers.len() {
-        if LINE <= i {
-            return i;
-        }
-        low[i] = byte(numbers[i]);
-        i += 1;
-    }
-    i
+    all.get(before.saturating_add(1)..last.saturating_add(1))
+        .unwrap_or(&[])
 }
 
 // As many numbers as there is room for, copied to a place.
-pub fn copy(from: &[u64], to: &mut [u64], at: usize) {
-    let mut end = at;
-    let mut i: usize = 0;
-    while i < from.len() {
-        if to.len() <= end {
-            return;
-        }
-        to[end] = from[i];
-        end += 1;
-        i += 1;
+fn copy(from: &[u64], to: &mut [u64], at: usize) {
+    for (cell, number) in to.iter_mut().skip(at).zip(from) {
+        *cell = *number;
     }
 }
 
@@ -110,48 +77,24 @@ pub fn row(numbers: &[u64]) -> [u64; WIDTH] {
     row
 }
 
-// Four numbers of an answer, with so many before them.
-pub fn put(cells: &mut [u64; CELLS], before: usize, a: u64, b: u64, c: u64, d: u64) {
-    if 4 < before {
-        return;
-    }
-    let at = ANSWER + before;
-    cells[at] = a;
-    cells[at + 1] = b;
-    cells[at + 2] = c;
-    cells[at + 3] = d;
+// Numbers of an answer, with so many before them.
+pub fn put(cells: &mut [u64; CELLS], before: usize, numbers: &[u64]) {
+    copy(numbers, &mut cells[ANSWER..], before);
 }
 
 // Bytes as numbers of an answer, with so many before them. How many numbers there are then.
 pub fn put_bytes(bytes: &[u8], cells: &mut [u64; CELLS], before: usize) -> usize {
-    let mut count = before;
-    let mut i: usize = 0;
-    while i < bytes.len() {
-        if CELLS - ANSWER <= count {
-            return count;
-        }
-        cells[ANSWER + count] = wide(bytes[i]);
-        count += 1;
-        i += 1;
+    for (cell, byte) in cells[ANSWER..].iter_mut().skip(before).zip(bytes) {
+        *cell = u64::from(*byte);
     }
-    count
+    before.saturating_add(bytes.len()).min(CELLS - ANSWER)
 }
 
-// The numbers behind a cell, up to the last, and the answer, which has so many: 1 where they are the same, 2 where not.
-pub fn same(cells: &[u64; CELLS], before: usize, last: usize, count: usize) -> u8 {
+// Whether the numbers behind a cell, up to the last, are the answer, which has so many.
+pub fn same(cells: &[u64; CELLS], before: usize, last: usize, count: usize) -> bool {
     let wanted = part(cells, before, last);
-    let mut i: usize = 0;
-    while i < wanted.len() {
-        if CELLS - ANSWER <= i {
-            return 2;
-        }
-        if wanted[i] != cells[ANSWER + i] {
-            return 2;
-        }
-        i += 1;
+    match cells[ANSWER..].get(..count) {
+        Some(answer) => answer == wanted,
+        None => false,
     }
-    if i == count {
-        return 1;
-    }
-    2
 }

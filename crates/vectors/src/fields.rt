@@ -1,12 +1,12 @@
 // What is asked of a header's fields, as in reads.rt.
-use crate::cells::{CELLS, Given, put, wide};
+use crate::cells::{CELLS, Given, put};
 use loader::fields::{apk_format_encode, apk_format_read, apk_timing_encode, apk_timing_read};
 
 // Asks for the format that bytes begin with.
 pub fn format_read(bytes: &[u8], cells: &mut [u64; CELLS]) -> usize {
     let mut format: u8 = 0xA5;
     let answer = apk_format_read(bytes, &mut format);
-    put(cells, 0, answer as u64, format as u64, 0, 0);
+    put(cells, 0, &[u64::from(answer), u64::from(format), 0, 0]);
     2
 }
 
@@ -19,10 +19,12 @@ pub fn timing_read(bytes: &[u8], cells: &mut [u64; CELLS]) -> usize {
     put(
         cells,
         0,
-        answer as u64,
-        ticks as u64,
-        rate as u64,
-        subframe as u64,
+        &[
+            u64::from(answer),
+            u64::from(ticks),
+            u64::from(rate),
+            u64::from(subframe),
+        ],
     );
     4
 }
@@ -35,6 +37,10 @@ pub fn written(given: Given, cells: &mut [u64; CELLS]) -> usize {
     } else {
         apk_timing_encode((given.n1 % 0x1_0000) as u16, given.b2, given.b3, &mut two)
     };
-    put(cells, 0, answer as u64, wide(two[0]), wide(two[1]), 0);
+    put(
+        cells,
+        0,
+        &[u64::from(answer), u64::from(two[0]), u64::from(two[1]), 0],
+    );
     3
 }

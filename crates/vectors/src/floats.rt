@@ -1,4 +1,5 @@
-// Floats and signed numbers as a line gives them: a float by its bits, a signed number by its two's complement.
+// Floats as a line gives them, by their bits, and the low bits of a number. The two widths are no plainer as one function:
+// it would take what is a NaN, and how bits become a float, from its caller.
 
 // The float of a pattern; of a NaN's, a NaN.
 pub fn single(bits: u32) -> f32 {
@@ -18,15 +19,6 @@ pub fn double(bits: u64) -> f64 {
     }
 }
 
-// The signed number of 16 bits.
-pub fn signed(bits: u16) -> i16 {
-    if bits < 0x8000 {
-        bits as i16
-    } else {
-        (bits as i32 - 0x1_0000) as i16
-    }
-}
-
 // The low 16 bits of a number.
 pub fn low16(n: u64) -> u16 {
     (n % 0x1_0000) as u16
@@ -35,12 +27,4 @@ pub fn low16(n: u64) -> u16 {
 // The low 32 bits of a number.
 pub fn low32(n: u64) -> u32 {
     (n % 0x1_0000_0000) as u32
-}
-
-// Yes 1, no 0.
-pub fn said(yes: bool) -> u64 {
-    if yes {
-        return 1;
-    }
-    0
 }

@@ -1,34 +1,92 @@
 // Lines, each of which is asked of the port. A line begins with a letter, with # where it is a remark, with - where it
 // names the lines behind it, with , where it is words to write and with . where it ends them. The port's answer is
 // compared with the line's, and written where the line has `=` and no number behind it.
-use crate::cells::{CELLS, Given, LINE, narrow, numbers, part, same};
-use crate::input::read_full;
-use crate::text::{decimal, word};
-use crate::{bends, fields, line, reads, records, sheets, text, times, widths, writes};
-use std::io;
-use std::io::Read;
-use std::num::wrapping_add_u64;
+use crate::cells::{CELLS, Given, byte, numbers, part, same};
+use crate::line::Line;
+use crate::{bends, fields, reads, records, sheets, text, times, widths, writes};
+use std::{fmt, io};
 
-// The most bytes of standard input: 1 MiB.
-pub const INPUT: usize = 0x10_0000;
+// How many answers were compared, and how many of these differ.
+#[derive(Clone, Copy)]
+struct Count {
+    compared: u64,
+    differ: u64,
+}
+
+impl Count {
+    // Nothing was compared yet.
+    fn none() -> Count {
+        Count {
+            compared: 0,
+            differ: 0,
+        }
+    }
+
+    // With so many more.
+    fn with(self, more: Count) -> Count {
+        Count {
+            compared: self.compared.wrapping_add(more.compared),
+            differ: self.differ.wrapping_add(more.differ),
+        }
+    }
+}
+
+impl fmt::Display for Count {
+    fn fmt<W: fmt::Write>(&self, f: &mut fmt::Formatter<W>) -> fmt::Result {
+        let compared = self.compared;
+        let differ = self.differ;
+        write!(f, "{compared} compared, {differ} differ")
+    }
+}
 
 // What was compared of a group of lines, and of those before it; the number of the line.
 #[derive(Clone, Copy)]
 pub struct Tally {
-    group: u64,
-    group_differ: u64,
-    all: u64,
-    all_differ: u64,
+    group: Count,
+    all: Count,
     line: u64,
 }
 
-// Writes how many lines were compared, and how many differ.
-fn count(out: &impl Print, compared: u64, differ: u64) -> io::Result<()> {
-    word(out, b" ")?;
-    decimal(out, compared)?;
-    word(out, b" compared, ")?;
-    decimal(out, differ)?;
-    word(out, b" differ\n")
+impl Tally {
+    // A question was answered: what it adds.
+    fn add(&mut self, out: &impl Print, outcome: Outcome) -> io::Result<()> {
+        let differ = match outcome {
+            Outcome::Written => return Ok(()),
+            Outcome::Same => 0,
+            Outcome::Differs => 1,
+        };
+        self.group = self.group.with(Count {
+            compared: 1,
+            differ,
+        });
+        if 0 < differ {
+            let line = self.line;
+            print!(out; " line {line} differs,")?;
+        }
+        Ok(())
+    }
+
+    // A group that is over.
+    fn end(&mut self, out: &impl Print) -> io::Result<()> {
+        let group = self.group;
+        if 0 < group.compared {
+            println!(out; " {group}")?;
+        }
+        self.all = self.all.with(group);
+        self.group = Count::none();
+        Ok(())
+    }
+}
+
+// What came of a question.
+#[derive(Clone, Copy)]
+enum Outcome {
+    // its answer is written
+    Written,
+    // it is the line's
+    Same,
+    // it is not the line's
+    Differs,
 }
 
 // What the port answers to a letter is put into the cells. How many numbers it has.
@@ -70,131 +128,87 @@ fn besides(given: Given, bytes: &[u8], cells: &mut [u64; CELLS]) -> usize {
     }
 }
 
-// One line asked, its bytes the first of an array.
-fn asked(given: Given, low: &[u8; LINE], length: usize, cells: &mut [u64; CELLS]) -> usize {
-    let all: &[u8] = low;
-    let start: usize = 0;
-    if LINE < length {
-        return 0;
-    }
-    answered(given, &all[start..length], cells)
-}
-
-// A question: 0 where its answer is written, 1 where it is the line's, 2 where it differs.
-fn question(out: &impl Print, text: &[u8], cells: &mut [u64; CELLS]) -> io::Result<u8> {
-    let mut low = [0u8; LINE];
-    let line = line::read(text, cells);
-    let length = narrow(part(cells, line.bytes, line.answer), &mut low);
+// Asks a line's question.
+fn question(
+    rt: &(impl Print + AllocGlobal),
+    text: &[u8],
+    cells: &mut [u64; CELLS],
+) -> io::Result<Outcome> {
+    let line = Line::read(text, cells);
+    let bytes: Vec<u8> = part(cells, line.bytes, line.answer)
+        .iter()
+        .map(|n| byte(*n))
+        .collect(rt.alloc())?;
     let given = numbers(cells, line.bytes);
-    let count = asked(given, &low, length, cells);
+    let count = answered(given, &bytes, cells);
     if line.answer == line.last {
-        text::answer(out, given.letter, cells)?;
-        return Ok(0);
+        text::answer(rt, given.letter, cells)?;
+        return Ok(Outcome::Written);
     }
-    Ok(same(cells, line.answer, line.last, count))
-}
-
-// What a question adds to the tally.
-fn compared(out: &impl Print, outcome: u8, tally: Tally) -> io::Result<Tally> {
-    let mut after = tally;
-    if outcome == 0 {
-        return Ok(after);
+    if same(cells, line.answer, line.last, count) {
+        Ok(Outcome::Same)
+    } else {
+        Ok(Outcome::Differs)
     }
-    after.group = wrapping_add_u64(tally.group, 1);
-    if outcome == 2 {
-        after.group_differ = wrapping_add_u64(tally.group_differ, 1);
-        word(out, b" line ")?;
-        decimal(out, tally.line)?;
-        word(out, b" differs,")?;
-    }
-    Ok(after)
-}
-
-// A group that is over.
-fn ended(out: &impl Print, tally: Tally) -> io::Result<Tally> {
-    if 0 < tally.group {
-        count(out, tally.group, tally.group_differ)?;
-    }
-    Ok(Tally {
-        group: 0,
-        group_differ: 0,
-        all: wrapping_add_u64(tally.all, tally.group),
-        all_differ: wrapping_add_u64(tally.all_differ, tally.group_differ),
-        line: tally.line,
-    })
 }
 
 // A line, and what was compared then. A name ends the group before it, and so do words.
 fn taken(
-    out: &impl Print,
+    rt: &(impl Print + AllocGlobal),
     text: &[u8],
     cells: &mut [u64; CELLS],
-    tally: Tally,
-) -> io::Result<Tally> {
-    let start: usize = 1;
-    let mut after = tally;
-    after.line = wrapping_add_u64(tally.line, 1);
-    if text.len() == 0 {
-        return Ok(after);
-    }
-    match text[0] {
-        b'#' => {}
-        b'.' => word(out, b"\n")?,
+    tally: &mut Tally,
+) -> io::Result<()> {
+    tally.line = tally.line.wrapping_add(1);
+    let Some((first, rest)) = text.split_first() else {
+        return Ok(());
+    };
+    match *first {
+        b'#' => Ok(()),
+        b'.' => rt.write_all(b"\n"),
         b',' => {
-            after = ended(out, after)?;
-            word(out, &text[start..])?;
+            tally.end(rt)?;
+            rt.write_all(rest)
         }
         b'-' => {
-            after = ended(out, after)?;
-            word(out, text)?;
-            word(out, b":")?;
+            tally.end(rt)?;
+            rt.write_all(text)?;
+            rt.write_all(b":")
         }
-        _ => after = compared(out, question(out, text, cells)?, after)?,
+        _ => {
+            let outcome = question(rt, text, cells)?;
+            tally.add(rt, outcome)
+        }
     }
-    Ok(after)
 }
 
-// All lines of a text, and what was compared.
-pub fn all(out: &impl Print, text: &[u8], cells: &mut [u64; CELLS]) -> io::Result<Tally> {
+// All lines of a text, and what was compared. What stands behind the end of the last line is none.
+pub fn all(
+    rt: &(impl Print + AllocGlobal),
+    text: &[u8],
+    cells: &mut [u64; CELLS],
+) -> io::Result<Tally> {
     let mut tally = Tally {
-        group: 0,
-        group_differ: 0,
-        all: 0,
-        all_differ: 0,
+        group: Count::none(),
+        all: Count::none(),
         line: 0,
     };
-    let mut start: usize = 0;
-    let mut i: usize = 0;
-    while i < text.len() {
-        if text[i] == b'\n' {
-            if start <= i {
-                tally = taken(out, &text[start..i], cells, tally)?;
-            }
-            start = i + 1;
+    for piece in text.split_inclusive(|byte| *byte == b'\n') {
+        if let Some(line) = piece.strip_suffix(b"\n") {
+            taken(rt, line, cells, &mut tally)?;
         }
-        i += 1;
     }
-    ended(out, tally)
+    tally.end(rt)?;
+    Ok(tally)
 }
 
-// Reads standard input: how many bytes it has.
-pub fn read(input: &mut impl Read, text: &mut [u8; INPUT]) -> io::Result<usize> {
-    read_full(input, text)
-}
-
-// The lines of so many bytes of standard input.
+// The lines of standard input.
 pub fn stored(
-    out: &impl Print,
-    text: &[u8; INPUT],
-    length: usize,
+    rt: &(impl Print + AllocGlobal),
+    text: &[u8],
     cells: &mut [u64; CELLS],
 ) -> io::Result<()> {
-    let input: &[u8] = text;
-    let start: usize = 0;
-    if INPUT < length {
-        return Ok(());
-    }
-    let tally = all(out, &input[start..length], cells)?;
-    word(out, b"in all:")?;
-    count(out, tally.all, tally.all_differ)
+    let tally = all(rt, text, cells)?;
+    let count = tally.all;
+    println!(rt; "in all: {count}")
 }

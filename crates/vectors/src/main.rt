@@ -9,7 +9,6 @@ mod cells;
 mod examples;
 mod fields;
 mod floats;
-mod input;
 mod line;
 mod lines;
 mod reads;
@@ -21,17 +20,20 @@ mod widths;
 mod writes;
 
 use crate::cells::CELLS;
-use crate::lines::INPUT;
 use std::io;
+use std::io::Read;
+
+// The most bytes of standard input: 1 MiB.
+const INPUT: u64 = 0x10_0000;
 
 // Runs the examples of the program's own text, then the stored answers of standard input.
 fn main(rt: HostRuntime) -> io::Result<()> {
-    let mut input = [0u8; INPUT];
     let mut cells = [0u64; CELLS];
-    examples::numbers(&rt, &mut cells)?;
-    examples::tracks(&rt, &mut cells)?;
-    examples::wrong(&rt, &mut cells)?;
-    examples::worked(&rt, &mut cells)?;
-    let length = lines::read(&mut rt.stdin(), &mut input)?;
-    lines::stored(&rt, &input, length, &mut cells)
+    lines::all(&rt, examples::NUMBERS, &mut cells)?;
+    lines::all(&rt, examples::TRACKS, &mut cells)?;
+    lines::all(&rt, examples::WRONG, &mut cells)?;
+    lines::all(&rt, examples::WORKED, &mut cells)?;
+    let mut text = Vec::new(rt.alloc());
+    rt.stdin().take(INPUT).read_to_end(&mut text)?;
+    lines::stored(&rt, &text, &mut cells)
 }

@@ -1,6 +1,6 @@
 // What is asked of the readers of numbers, payloads, events and lists. Each puts the numbers that the port answers into
 // the cells, and says how many they are. Values that the port is to set hold A5 before, and still do where it refuses.
-use crate::cells::{ANSWER, CELLS, copy, part, put, row, wide};
+use crate::cells::{CELLS, part, put, row};
 use loader::numbers::{apk_number_read, apk_payload_read};
 use loader_track::events::apk_event_read;
 use loader_track::list_read::apk_list_read;
@@ -17,10 +17,12 @@ pub fn number_read(at: usize, rules: u8, bytes: &[u8], cells: &mut [u64; CELLS])
     put(
         cells,
         0,
-        answer as u64,
-        value as u64,
-        next as u64,
-        padding as u64,
+        &[
+            u64::from(answer),
+            u64::from(value),
+            next as u64,
+            padding as u64,
+        ],
     );
     4
 }
@@ -34,10 +36,12 @@ pub fn payload_read(at: usize, rules: u8, bytes: &[u8], cells: &mut [u64; CELLS]
     put(
         cells,
         0,
-        answer as u64,
-        start as u64,
-        length as u64,
-        padding as u64,
+        &[
+            u64::from(answer),
+            start as u64,
+            length as u64,
+            padding as u64,
+        ],
     );
     4
 }
@@ -47,7 +51,7 @@ fn put_row(answer: u8, row: &[u64; WIDTH], cells: &mut [u64; CELLS]) -> usize {
     if 0 < answer {
         return 4;
     }
-    copy(row, cells, ANSWER + 4);
+    put(cells, 4, row);
     WIDTH + 4
 }
 
@@ -76,10 +80,12 @@ pub fn event_read(
     put(
         cells,
         0,
-        answer as u64,
-        used as u64,
-        after as u64,
-        padding as u64,
+        &[
+            u64::from(answer),
+            used as u64,
+            u64::from(after),
+            padding as u64,
+        ],
     );
     put_row(answer, &row, cells)
 }
@@ -119,13 +125,15 @@ pub fn list_read(
     put(
         cells,
         0,
-        answer as u64,
-        count as u64,
-        end as u64,
-        after as u64,
+        &[
+            u64::from(answer),
+            count as u64,
+            end as u64,
+            u64::from(after),
+        ],
     );
-    put(cells, 4, padding as u64, 0, 0, 0);
-    copy(&rows, cells, ANSWER + 5);
+    put(cells, 4, &[padding as u64]);
+    put(cells, 5, &rows);
     behind(count)
 }
 
@@ -138,12 +146,11 @@ fn same_rows(cells: &[u64; CELLS], first: &[u8], second: &[u8], same: &mut u8) -
 
 // How many bytes are the first event's; two rows.
 pub fn events_same(middle: usize, bytes: &[u8], cells: &mut [u64; CELLS]) -> usize {
-    let start: usize = 0;
     let mut same: u8 = 0xA5;
-    if bytes.len() < middle {
+    let Some((first, second)) = bytes.split_at_checked(middle) else {
         return 0;
-    }
-    let answer = same_rows(cells, &bytes[start..middle], &bytes[middle..], &mut same);
-    put(cells, 0, answer as u64, same as u64, 0, 0);
+    };
+    let answer = same_rows(cells, first, second, &mut same);
+    put(cells, 0, &[u64::from(answer), u64::from(same), 0, 0]);
     2
 }

@@ -1,9 +1,8 @@
 // What is asked of functions that are not exported: the event reader with the running status beside what it reads, which
 // is all that the reader with a lent running status hands on, and the list of records.
-use crate::cells::{ANSWER, CELLS, Given, copy, put};
+use crate::cells::{CELLS, Given, put};
 use base::Running;
 use event::TrackEvent;
-use event::read::ReadEvent;
 use event::running::read_step;
 use loader::rules;
 use rows::{WIDTH, event_row};
@@ -13,7 +12,7 @@ use track::list::{CAPACITY, EventList};
 fn put_event(event: TrackEvent, cells: &mut [u64; CELLS]) -> usize {
     let kind = event.kind;
     let row = event_row(event.delta.0, kind);
-    copy(&row, cells, ANSWER + 4);
+    put(cells, 4, &row);
     WIDTH + 4
 }
 
@@ -25,23 +24,25 @@ pub fn step(given: Given, bytes: &[u8], cells: &mut [u64; CELLS]) -> usize {
         Running { status: given.b2 },
         rules(given.b1),
     );
-    let left = step.running.status as u64;
+    let left = u64::from(step.running.status);
     let read = step.read;
     match read {
-        ReadEvent::Event(e) => {
+        Ok(e) => {
             let event = e.event;
-            put(cells, 0, 0, e.used as u64, left, e.padding as u64);
+            put(cells, 0, &[0, e.used as u64, left, e.padding as u64]);
             put_event(event, cells)
         }
-        ReadEvent::Refused(n) => {
+        Err(n) => {
             let refusal = n.refusal;
             put(
                 cells,
                 0,
-                refusal.number() as u64,
-                n.used as u64,
-                left,
-                n.padding as u64,
+                &[
+                    u64::from(u8::from(refusal)),
+                    n.used as u64,
+                    left,
+                    n.padding as u64,
+                ],
             );
             4
         }
@@ -61,10 +62,12 @@ pub fn record(given: Given, bytes: &[u8], cells: &mut [u64; CELLS]) -> usize {
     put(
         cells,
         0,
-        list.count as u64,
-        read.place as u64,
-        read.running.status as u64,
-        read.padding as u64,
+        &[
+            list.count as u64,
+            read.place as u64,
+            u64::from(read.running.status),
+            read.padding as u64,
+        ],
     );
     let record = list.records[index];
     let event = record.event;

@@ -1,6 +1,6 @@
 // What is asked of writers, as in reads.rt: into a lent buffer of so many bytes as the first number says, each A5, all
 // of which are answered behind the numbers.
-use crate::cells::{ANSWER, CELLS, Given, NO_RULES, part, place, put, put_bytes, row, wide};
+use crate::cells::{ANSWER, CELLS, Given, NO_RULES, part, put, put_bytes, row};
 use crate::reads::list_read;
 use loader::numbers::{apk_number_length, apk_number_write, apk_payload_write};
 use loader_track::events::{apk_event_length, apk_event_write};
@@ -17,10 +17,12 @@ fn number_written(value: u32, at: usize, out: &mut [u8], cells: &mut [u64; CELLS
     put(
         cells,
         0,
-        answer as u64,
-        next as u64,
-        apk_number_length(value) as u64,
-        0,
+        &[
+            u64::from(answer),
+            next as u64,
+            apk_number_length(value) as u64,
+            0,
+        ],
     );
     3
 }
@@ -29,7 +31,7 @@ fn number_written(value: u32, at: usize, out: &mut [u8], cells: &mut [u64; CELLS
 fn payload_written(given: Given, bytes: &[u8], out: &mut [u8], cells: &mut [u64; CELLS]) -> usize {
     let mut next: usize = 0xA5;
     let answer = apk_payload_write(bytes, given.n3, given.n4, out, given.n2, &mut next);
-    put(cells, 0, answer as u64, next as u64, 0, 0);
+    put(cells, 0, &[u64::from(answer), next as u64, 0, 0]);
     2
 }
 
@@ -38,7 +40,11 @@ fn event_measured(event: &[u64; WIDTH], running: u8, bytes: &[u8], cells: &mut [
     let mut length: usize = 0xA5;
     let mut after: u8 = 0xA5;
     let answer = apk_event_length(event, bytes, running, NO_RULES, &mut length, &mut after);
-    put(cells, 0, answer as u64, length as u64, after as u64, 0);
+    put(
+        cells,
+        0,
+        &[u64::from(answer), length as u64, u64::from(after), 0],
+    );
 }
 
 // Room, place, running status, row.
@@ -50,7 +56,11 @@ fn event_written(given: Given, bytes: &[u8], out: &mut [u8], cells: &mut [u64; C
     let answer = apk_event_write(
         &event, bytes, given.b3, NO_RULES, out, given.n2, &mut next, &mut after,
     );
-    put(cells, 3, answer as u64, next as u64, after as u64, 0);
+    put(
+        cells,
+        3,
+        &[u64::from(answer), next as u64, u64::from(after), 0],
+    );
     6
 }
 
@@ -73,10 +83,12 @@ fn list_measured(last: usize, count: usize, running: u8, bytes: &[u8], cells: &m
     put(
         cells,
         0,
-        answer as u64,
-        length as u64,
-        after as u64,
-        index as u64,
+        &[
+            u64::from(answer),
+            length as u64,
+            u64::from(after),
+            index as u64,
+        ],
     );
 }
 
@@ -109,10 +121,12 @@ fn list_written(
     put(
         cells,
         4,
-        answer as u64,
-        length as u64,
-        after as u64,
-        index as u64,
+        &[
+            u64::from(answer),
+            length as u64,
+            u64::from(after),
+            index as u64,
+        ],
     );
     8
 }
@@ -129,7 +143,7 @@ fn list(given: Given, bytes: &[u8], out: &mut [u8], cells: &mut [u64; CELLS]) ->
 // the last, the padding, is not kept.
 fn list_back(rules: u8, bytes: &[u8], out: &mut [u8], cells: &mut [u64; CELLS]) -> usize {
     list_read(0, 0, rules, bytes, cells);
-    let count = place(cells[ANSWER + 1]);
+    let count = cells[ANSWER + 1] as usize;
     list_written(ANSWER + 4, CELLS - 1, count, 0, rules, bytes, out, cells)
 }
 
@@ -145,24 +159,14 @@ fn written(given: Given, bytes: &[u8], out: &mut [u8], cells: &mut [u64; CELLS])
     }
 }
 
-// The buffer as it is at the end, behind the answers.
-fn put_out(out: &[u8; ROOM], room: usize, cells: &mut [u64; CELLS], before: usize) -> usize {
-    let all: &[u8] = out;
-    let start: usize = 0;
-    if ROOM < room {
-        return before;
-    }
-    put_bytes(&all[start..room], cells, before)
-}
-
-// Asks for what a line wants written, into a buffer of the room that it names.
+// Asks for what a line wants written, into a buffer of the room that it names. The buffer as it is at the end stands behind
+// the answers.
 pub fn answer(given: Given, bytes: &[u8], cells: &mut [u64; CELLS]) -> usize {
     let mut out = [0xA5u8; ROOM];
-    let start: usize = 0;
     let room = given.n1;
     if ROOM < room {
         return 0;
     }
-    let count = written(given, bytes, &mut out[start..room], cells);
-    put_out(&out, room, cells, count)
+    let count = written(given, bytes, &mut out[..room], cells);
+    put_bytes(&out[..room], cells, count)
 }

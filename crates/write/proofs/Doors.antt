@@ -1,4 +1,5 @@
 -- What a door answers: an event that it let through is sound, and what it refuses has a number of the document.
+use Rattle.std.specs.Prelude.{Err, Ok, Result}
 use mathlib.Core.Path.{◌≡◌, ap}
 use mathlib.Core.Bool.{Bool, true, false, ◌&&◌, not}
 use mathlib.Core.List.{List}
@@ -18,25 +19,21 @@ use Rattle.base.specs.Refusal.{number_of}
 use Rattle.base.specs.declared.Refusal.{Refusal}
 use Rattle.write.specs.Raw.{raw_judged, is_sound, wire_of, made_said, judged_said, LetThrough}
 use Rattle.write.specs.declared.raw.Raw.{Raw}
-use Rattle.write.specs.declared.raw.Made.{Made}
-use Rattle.write.specs.declared.raw.Made.TheVariants as made
 use Rattle.write.specs.declared.raw.RawEvent.{RawEvent}
-use Rattle.write.specs.declared.raw.Judged.{Judged}
-use Rattle.write.specs.declared.raw.Judged.TheVariants as judged
 
 -- a delta, and what stands behind it
 module _ (bytes : List ℕ) (delta : ℕ) where
-  abbrev Behind : Made → Answer wire.RawEvent
+  abbrev Behind : Result Raw Refusal → Answer wire.RawEvent
   Behind m = pick (ltb delta (2 ^ 28)) (and_then (made_said bytes m) (λ raw. gives (raw_event delta raw))) (refuses 18)
 
-  pub behind_wide : (m : Made) → 2 ^ 28 ≤ delta → refuses 18 ≡ Behind m
+  pub behind_wide : (m : Result Raw Refusal) → 2 ^ 28 ≤ delta → refuses 18 ≡ Behind m
   behind_wide m h = rw (le-ltb _ _ h)
 
   module _ (h : delta < 2 ^ 28) where
-    pub behind_refused : (m : Made) (n : Refusal) → m ≡ made.Refused n → refuses (number_of n) ≡ Behind m
+    pub behind_refused : (m : Result Raw Refusal) (n : Refusal) → m ≡ Err n → refuses (number_of n) ≡ Behind m
     behind_refused m n e = rw (lt-ltb _ _ h, e)
 
-    pub behind_raw : (m : Made) (r : Raw) → m ≡ made.Raw r
+    pub behind_raw : (m : Result Raw Refusal) (r : Raw) → m ≡ Ok r
         → pick (ltb delta (2 ^ 28) && is_sound bytes r) (gives (raw_event delta (wire_of bytes r))) (refuses 0) ≡ Behind m
     behind_raw m r e = rw (lt-ltb _ _ h, e) (by_test (is_sound bytes r) (λ s. rw s) (λ s. rw s))
 
@@ -66,15 +63,15 @@ raw_number (gives e) q = let z : ◌≡◌ {A = ℕ} 0 1 = cc in absurd (omega a
 raw_number (refuses n) q = let w : n ≡ 0 = cc in ap refuses w
 
 -- so that an event which a door let through is sound
-pub told : (bytes : List ℕ) (j : Answer (Event (List ℕ))) → (j ≡ refuses 0 → ⊥) → (d : Judged) → judged_said bytes d ≡ raw_judged j → LetThrough bytes d
-told bytes j numbered (judged.Refused n) h = tt
-told bytes j numbered (judged.Raw r) h =
+pub told : (bytes : List ℕ) (j : Answer (Event (List ℕ))) → (j ≡ refuses 0 → ⊥) → (d : Result RawEvent Refusal) → judged_said bytes d ≡ raw_judged j → LetThrough bytes d
+told bytes j numbered (Err n) h = tt
+told bytes j numbered (Ok r) h =
     by_test (ltb r.delta.0 (2 ^ 28) && is_sound bytes r.raw)
     (λ t. let p = both (ltb r.delta.0 (2 ^ 28)) (is_sound bytes r.raw) t in (ltb-true _ _ p.0, p.1))
     (λ t. absurd (numbered (raw_number j (rw t at h))))
 
 -- and says what it is
-pub said_raw : (bytes : List ℕ) (j : Judged) (e : RawEvent) → j ≡ judged.Raw e → LetThrough bytes j → judged_said bytes j ≡ gives (raw_event e.delta.0 (wire_of bytes e.raw))
+pub said_raw : (bytes : List ℕ) (j : Result RawEvent Refusal) (e : RawEvent) → j ≡ Ok e → LetThrough bytes j → judged_said bytes j ≡ gives (raw_event e.delta.0 (wire_of bytes e.raw))
 said_raw bytes j e is t =
-    let p : LetThrough bytes (judged.Raw e) = rw is at t in
+    let p : LetThrough bytes (Ok e) = rw is at t in
     rw (is, lt-ltb e.delta.0 (2 ^ 28) p.0, p.1)

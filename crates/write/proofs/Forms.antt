@@ -1,4 +1,5 @@
 -- What stands behind the delta of each kind, by its own tests alone.
+use Rattle.std.specs.Prelude.{Err, Ok, Result}
 use mathlib.Core.Path.{◌≡◌, refl, sym, ap, ◌∙◌}
 use mathlib.Core.Bool.{Bool, true, false, ◌&&◌, not}
 use mathlib.Core.List.{List, [], ◌∷◌}
@@ -6,7 +7,7 @@ use Prim.Native.Nat.{ℕ, ◌/◌, ◌%◌, ◌^◌, ◌<◌}
 use native.Mathlib.Omega.{arith}
 use lib.Dec.{ltb}
 use lib.IntN.{ℤ}
-use lib.ListN.{length}
+use lib.ListN.{length, take}
 use lib.Signed.{mag}
 use borrow.Author.Tests.{le-leb, lt-ltb, le-ltb}
 use Rattle.smf.specs.Answer.{pick, Answer, gives, refuses, unless, and_then, Rules}
@@ -21,8 +22,6 @@ use Rattle.smf.specs.Event.{Event, event, message_fits, meta_fits, kind_fits, lo
 use Rattle.smf.proofs.Answer.{by_test, by_lt, given}
 use Rattle.base.specs.declared.Refusal.{Refusal}
 use Rattle.header.specs.Smpte.{encoded_smpte_time}
-use Rattle.header.specs.declared.smpte.EncodedSmpteTime.{EncodedSmpteTime}
-use Rattle.header.specs.declared.smpte.EncodedSmpteTime.TheVariants.{Bytes, Refused}
 use Rattle.write.specs.Raw.{raw_judged, raw_kind, lent}
 
 -- the tests of legality in their order, over whatever they are made on
@@ -160,14 +159,14 @@ module _ (rules : Rules) (bytes : List ℕ) where
 
   -- an SMPTE time, by what its encoding answers
   module _ (t : Time) where
-    pub time_given_lem : (r : EncodedSmpteTime) (a b c d e : ℕ) → encoded_smpte_time r ≡ encode_time rules t → r ≡ Bytes a b c d e
-        → gives (wire.typed 0x54 (a ∷ b ∷ c ∷ d ∷ e ∷ [])) ≡ raw_kind rules bytes (meta (smpte_offset t))
-    unfolding encode_time
-    time_given_lem r a b c d e says is =
+    pub time_given_lem : (r : Result (List ℕ) Refusal) (b : List ℕ) → encoded_smpte_time r ≡ encode_time rules t → r ≡ Ok b
+        → gives (wire.typed 0x54 (take 5 b)) ≡ raw_kind rules bytes (meta (smpte_offset t))
+    unfolding encode_time time_bytes
+    time_given_lem r b says is =
         let g = given (is_time rules t) (time_bytes t) 18 (sym (ap encoded_smpte_time (sym is) ∙ says)) in
-        rw (time_made t, g.0) (ap (λ (l : List ℕ). gives (wire.typed 0x54 l)) (sym g.1))
+        rw (time_made t, g.0) (ap (λ (l : List ℕ). gives (wire.typed 0x54 (take 5 l))) (sym g.1))
 
-    pub time_refused : (r : EncodedSmpteTime) (n : Refusal) → encoded_smpte_time r ≡ encode_time rules t → r ≡ Refused n
+    pub time_refused : (r : Result (List ℕ) Refusal) (n : Refusal) → encoded_smpte_time r ≡ encode_time rules t → r ≡ Err n
         → refuses 18 ≡ raw_kind rules bytes (meta (smpte_offset t))
     unfolding encode_time
     time_refused r n says is =

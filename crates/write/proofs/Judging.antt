@@ -1,11 +1,11 @@
 -- Records and rows as they are judged, one by one: what a loop takes at an index is what the list has there.
 use mathlib.Core.Path.{◌≡◌, refl, ap, ◌∙◌}
 use mathlib.Core.Bool.{true}
-use mathlib.Core.List.{List, map}
-use Prim.Native.Nat.{ℕ, zero, suc, ◌+◌, ◌*◌, ◌≤◌, ◌<◌}
+use mathlib.Core.List.{List, [], ◌∷◌, map}
+use Prim.Native.Nat.{ℕ, zero, suc, ◌+◌, ◌*◌, ◌<◌}
 use native.Mathlib.Omega.{arith}
 use lib.ListN.{length, take, drop, get_or, length-map, get_or-map}
-use lib.Seq.{drop-drop, get_or-take, length-take-le}
+use lib.Seq.{drop-drop}
 use Rattle.smf.specs.Answer.{Answer, gives, refuses, Rules}
 use Rattle.smf.specs.Place.{Span}
 use Rattle.smf.specs.Event.{Event, legal}
@@ -22,21 +22,24 @@ use Rattle.rows.specs.RowLists.{rows_judged}
 use Rattle.rows.proofs.IsRow.{not_there}
 use Rattle.write.specs.Raw.{raw_judged}
 
+-- a cell that is there, by any default
+there : {A : Type 0} (xs : List A) (i : ℕ) (a b : A) → i < length xs → get_or xs i a ≡ get_or xs i b
+there [] i a b h = absurd (omega arith)
+there (x ∷ xs) zero a b h = refl
+there (x ∷ xs) (suc i) a b h = there xs i a b (omega arith)
+
 -- The records that count
 
 module _ (rules : Rules) (bytes : List ℕ) where
-  module _ (records : List Record) (count : ℕ) where
-    abbrev pub records_counted : List (Answer (Event (List ℕ)))
-    records_counted = take count (records_judged rules bytes (map record_of records))
+  pub records_length : (records : List Record) → length (records_judged rules bytes (map record_of records)) ≡ length records
+  records_length records = omega (arith, length-map (map record_of records) (legal rules bytes), length-map records record_of)
 
-    pub records_counted_lem : count ≤ length records → length records_counted ≡ count
-    records_counted_lem h = length-take-le count (records_judged rules bytes (map record_of records)) (omega (arith, length-map (map record_of records) (legal rules bytes), length-map records record_of))
-
-    pub record_counted : (i : ℕ) → i < count → get_or records_counted i (legal rules bytes (record_of past)) ≡ legal rules bytes (record_of (get_or records i past))
-    record_counted i h =
-        get_or-take count (records_judged rules bytes (map record_of records)) i (legal rules bytes (record_of past)) h
-        ∙ get_or-map (legal rules bytes) (map record_of records) i (record_of past)
-        ∙ ap (legal rules bytes) (get_or-map record_of records i past)
+  pub record_at : (records : List Record) (i : ℕ) (d : Answer (Event (List ℕ))) → i < length records
+      → get_or (records_judged rules bytes (map record_of records)) i d ≡ legal rules bytes (record_of (get_or records i past))
+  record_at records i d h =
+      there (records_judged rules bytes (map record_of records)) i d (legal rules bytes (record_of past)) (omega (arith, records_length records))
+      ∙ get_or-map (legal rules bytes) (map record_of records) i (record_of past)
+      ∙ ap (legal rules bytes) (get_or-map record_of records i past)
 
   -- a record that is given is legal
   pub record_lawful : (r : Event Span) (e : Event (List ℕ)) → legal rules bytes r ≡ gives e → is_legal rules e ≡ true
@@ -54,21 +57,11 @@ module _ (rules : Rules) (bytes : List ℕ) where
   rows_length zero cells = refl
   rows_length (suc n) cells = ap suc (rows_length n (drop width cells))
 
-  rows_at : (n : ℕ) (cells : List ℕ) (i : ℕ) (d : Answer (Event (List ℕ))) → i < n → get_or (rows_judged rules bytes n cells) i d ≡ row_judged rules bytes (take width (drop (i * width) cells))
+  pub rows_at : (n : ℕ) (cells : List ℕ) (i : ℕ) (d : Answer (Event (List ℕ))) → i < n → get_or (rows_judged rules bytes n cells) i d ≡ row_judged rules bytes (take width (drop (i * width) cells))
   unfolding rows_judged
   rows_at zero cells i d h = absurd (omega arith)
   rows_at (suc n) cells zero d h = refl
   rows_at (suc n) cells (suc i) d h = rows_at n (drop width cells) i d (omega arith) ∙ ap (λ (l : List ℕ). row_judged rules bytes (take width l)) (row_on i cells)
-
-  module _ (n : ℕ) (cells : List ℕ) where
-    abbrev pub rows_counted : List (Answer (Event (List ℕ)))
-    rows_counted = take n (rows_judged rules bytes n cells)
-
-    pub rows_counted_lem : length rows_counted ≡ n
-    rows_counted_lem = length-take-le n (rows_judged rules bytes n cells) (omega (arith, rows_length n cells))
-
-    pub row_counted : (i : ℕ) (d : Answer (Event (List ℕ))) → i < n → get_or rows_counted i d ≡ row_judged rules bytes (take width (drop (i * width) cells))
-    row_counted i d h = get_or-take n (rows_judged rules bytes n cells) i d h ∙ rows_at n cells i d h
 
   -- a row that is given is a legal event's
   pub row_lawful : (r : List ℕ) (e : Event (List ℕ)) → row_judged rules bytes r ≡ gives e → is_legal rules e ≡ true

@@ -5,12 +5,12 @@ use mathlib.Core.List.{List}
 use Prim.Native.Nat.{ℕ, ◌+◌, ◌^◌, ◌≤◌}
 use native.Mathlib.Omega.{arith}
 use lib.ListN.{length, length-append}
-use lib.Dec.{eqb}
+use lib.Dec.{eqb, leb}
 use borrow.Author.Tests.{leb-true}
 use Rattle.smf.specs.Answer.{pick}
 use Rattle.smf.specs.Number.{encode_number}
 use Rattle.smf.specs.Wire.{raw_event, encode_raw, encode_raw_event, running_after}
-use Rattle.smf.proofs.Answer.{pick_both}
+use Rattle.smf.proofs.Answer.{pick_both, both}
 use Rattle.smf.proofs.Number.{encode_most}
 use Rattle.meta.specs.Meta.{span_of}
 use Rattle.write.specs.Raw.{status_bytes, data_bytes, wire_of, is_sound, raw_length, raw_after, Short}
@@ -26,7 +26,7 @@ module _ (bytes : List ℕ) where
   sound_short (raw.Channel c) e = tt
   sound_short (raw.System status load) e = (lent_inside bytes (span_of load) e).short
   sound_short (raw.Typed t load) e = (lent_inside bytes (span_of load) e).short
-  sound_short (raw.Fixed t own) e = omega (arith, leb-true own.n 5 e)
+  sound_short (raw.Fixed t own) e = omega (arith, leb-true own.n 5 (both (leb own.n 5) (leb own.n (length own.bytes)) e).0)
 
   module _ (running : ℕ) where
     pub raw_length_lem : (r : Raw) → is_sound bytes r ≡ true → length (encode_raw running (wire_of bytes r)) ≡ raw_length running r
@@ -34,7 +34,7 @@ module _ (bytes : List ℕ) where
     raw_length_lem (raw.Channel c) e = ap length (channel_wire running c) ∙ length-append (status_bytes running c.status) (data_bytes c) ∙ rw (data_length_lem running c)
     raw_length_lem (raw.System status load) e = omega (arith, load_length_lem bytes (span_of load) (lent_inside bytes (span_of load) e))
     raw_length_lem (raw.Typed t load) e = omega (arith, load_length_lem bytes (span_of load) (lent_inside bytes (span_of load) e))
-    raw_length_lem (raw.Fixed t own) e = omega (arith, own_length own (leb-true own.n 5 e))
+    raw_length_lem (raw.Fixed t own) e = omega (arith, own_length own (leb-true own.n (length own.bytes) (both (leb own.n 5) (leb own.n (length own.bytes)) e).1))
 
     pub raw_after_lem : (r : Raw) → running_after (wire_of bytes r) ≡ raw_after r
     unfolding wire_of raw_after

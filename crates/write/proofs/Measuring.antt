@@ -1,4 +1,5 @@
 -- What a loop that measures a list keeps: the events so far were judged legal, and how long their bytes are.
+use Rattle.std.specs.Prelude.{Err, Ok, Result, IfOk}
 use mathlib.Core.Path.{◌≡◌, refl, sym, ap, ◌∙◌}
 use mathlib.Core.Bool.{true}
 use mathlib.Core.List.{List, [], ◌∷◌, ◌++◌, map}
@@ -15,12 +16,10 @@ use Rattle.smf.proofs.ListWrites.{encode_behind, after_behind}
 use Rattle.base.specs.Refusal.{number_of}
 use Rattle.base.specs.declared.Refusal.{Refusal}
 use Rattle.write.specs.Size as sizes
-use Rattle.write.specs.Size.{size_of, length_said, size_judged}
+use Rattle.write.specs.Size.{size_of, length_said, size_judged, most}
 use Rattle.write.specs.declared.answer.Size.{Size}
-use Rattle.write.specs.declared.answer.EventLength.{EventLength}
-use Rattle.write.specs.declared.answer.EventLength.TheVariants as event
 use Rattle.write.proofs.EventSizes.{Sized, size_refused, size_given}
-use Rattle.write.proofs.Most.{most, event_most}
+use Rattle.write.proofs.Most.{event_most}
 
 module _ (running : ℕ) (js : List (Answer (Event (List ℕ)))) where
   pub record Seen (n status i : ℕ) : Type 0 where
@@ -41,24 +40,21 @@ module _ (running : ℕ) (js : List (Answer (Event (List ℕ)))) where
       rw (h.size, h.after) (ap (size_checked running) (sym (ap (check 0) all ∙ check_given 0 h.events)))
 
   -- the next event was measured, wherever the code takes it from
-  module _ {n status i : ℕ} (h : Seen n status i) (more : i < length js) (d j : Answer (Event (List ℕ))) (there : get_or js i d ≡ j) (a : EventLength) (said : length_said a ≡ size_judged status j) where
-    pub seen_illegal : (m : Refusal) → a ≡ event.Refused m → unsized running (number_of m) i ≡ size_checked running (check 0 js)
+  module _ {n status i : ℕ} (h : Seen n status i) (more : i < length js) (d j : Answer (Event (List ℕ))) (there : get_or js i d ≡ j) (a : Result Size Refusal) (said : length_said a ≡ size_judged status j) where
+    pub seen_illegal : (m : Refusal) → a ≡ Err m → unsized running (number_of m) i ≡ size_checked running (check 0 js)
     unfolding size_checked
     seen_illegal m e =
         rw (legal_stops js i d h.events more h.legal (there ∙ size_refused status j (number_of m) (sym said ∙ ap length_said e)))
 
-    module _ (rules : Rules) (lawful : (e : Event (List ℕ)) → j ≡ gives e → is_legal rules e ≡ true) (s : Size) (e : a ≡ event.Length s) where
+    module _ (s : Size) (e : a ≡ Ok s) where
       sized : Sized status j (size_of s)
       sized = size_given status j (size_of s) (sym said ∙ ap length_said e)
 
       same_length : s.length ≡ length (encode_event status sized.event)
       same_length = ap (λ (x : sizes.Size). x.length) sized.size
 
-      pub seen_most : s.length ≤ most
-      seen_most = omega (arith, same_length, event_most rules status sized.event (lawful sized.event sized.legal))
-
-      pub seen_more : Seen (n + s.length) s.running.status (i + 1)
-      seen_more =
+      pub seen_more : s.length ≤ most → Seen (n + s.length) s.running.status (i + 1)
+      seen_more few =
           let es = h.events in
           let one = sized.event in
           let grown : length (encode_list running (es ++ (one ∷ []))) ≡ length (encode_list running es) + length (encode_event status one) =
@@ -69,5 +65,14 @@ module _ (running : ℕ) (js : List (Answer (Event (List ℕ)))) where
             legal = legal_more js i d es one more h.legal (there ∙ sized.legal);
             size = omega (arith, h.size, same_length, grown);
             after = ap (λ (x : sizes.Size). x.running) sized.size ∙ sym (after_behind running es one);
-            small = omega (arith, h.small, seen_most);
+            small = omega (arith, h.small, few);
           }
+
+-- an event that rules allow is not long
+pub size_short : (status : ℕ) (j : Answer (Event (List ℕ))) (a : Result Size Refusal) → length_said a ≡ size_judged status j
+    → (rules : Rules) → ((e : Event (List ℕ)) → j ≡ gives e → is_legal rules e ≡ true) → IfOk a (λ s. s.length ≤ most)
+size_short status j (Ok s) said rules lawful =
+    let z : Sized status j (size_of s) = size_given status j (size_of s) (sym said) in
+    let same : s.length ≡ length (encode_event status z.event) = ap (λ (x : sizes.Size). x.length) z.size in
+    omega (arith, same, event_most rules status z.event (lawful z.event z.legal))
+size_short status j (Err n) said rules lawful = tt

@@ -1,4 +1,5 @@
 -- No event has more bytes than its payload and a few: so that the lengths of as many as a list holds can be added up.
+use Rattle.write.specs.Size.{most}
 use mathlib.Core.Path.{◌≡◌}
 use mathlib.Core.Bool.{true}
 use mathlib.Core.List.{List}
@@ -17,9 +18,6 @@ use Rattle.smf.proofs.Payload.{encode_payload_length}
 use Rattle.smf.proofs.Wire.{Sound, raw_event_length}
 use Rattle.smf.proofs.Kind.{kind_sound}
 use Rattle.smf.proofs.Event.{is_legal_lem}
-
-abbrev pub most : ℕ
-most = 268435470
 
 raw_most : (running : ℕ) (raw : Raw) → Sound raw → length (encode_raw running raw) + 4 ≤ most
 unfolding encode_raw

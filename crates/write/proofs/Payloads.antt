@@ -1,4 +1,5 @@
 -- Payloads that are there: how long they are with their number.
+use Rattle.std.specs.Prelude.{Err, Ok, Result, ⊤}
 use mathlib.Core.Path.{◌≡◌, refl, sym, ap, ◌∙◌}
 use mathlib.Core.Bool.{Bool, true, false, ◌&&◌}
 use mathlib.Core.List.{List, []}
@@ -17,8 +18,6 @@ use Rattle.base.specs.Refusal.{number_of}
 use Rattle.base.specs.declared.Refusal.{Refusal}
 use Rattle.write.specs.Raw.{lent, is_lent, own_list, own_bytes, load_length, looked_said, Inside}
 use Rattle.write.specs.declared.raw.Own.{Own}
-use Rattle.write.specs.declared.make.Looked.{Looked}
-use Rattle.write.specs.declared.make.Looked.TheVariants as looked
 
 module _ (bytes : List ℕ) (span : Span) where
   pub lent_inside : is_lent bytes span ≡ true → Inside bytes span
@@ -44,8 +43,8 @@ module _ (bytes : List ℕ) (span : Span) where
   lent_there x h g = rw (le-leb _ _ h, lt-ltb _ _ g)
 
   -- what was looked at, says the same of whatever has the payload
-  module _ (r : Looked) (says : looked_said r ≡ lent bytes span tt) where
-    pub looked_refused : {A : Type 0} (x : A) (n : Refusal) → r ≡ looked.Refused n → lent bytes span x ≡ refuses (number_of n)
+  module _ (r : Result ⊤ Refusal) (says : looked_said r ≡ lent bytes span tt) where
+    pub looked_refused : {A : Type 0} (x : A) (n : Refusal) → r ≡ Err n → lent bytes span x ≡ refuses (number_of n)
     unfolding lent
     looked_refused x n e = by (inside bytes span) (ltb span.length (2 ^ 28)) (sym (ap looked_said e) ∙ says) where
       by : (s t : Bool) → refuses (number_of n) ≡ pick s (pick t (gives (tt {0})) (refuses 22)) (refuses 19) → pick s (pick t (gives x) (refuses 22)) (refuses 19) ≡ refuses (number_of n)
@@ -53,7 +52,7 @@ module _ (bytes : List ℕ) (span : Span) where
       by true false k = sym (cc)
       by false t k = sym (cc)
 
-    pub looked_there : {A : Type 0} (x : A) → r ≡ looked.There → (lent bytes span x ≡ gives x) × (is_lent bytes span ≡ true)
+    pub looked_there : {A : Type 0} (x : A) → r ≡ (Ok _) → (lent bytes span x ≡ gives x) × (is_lent bytes span ≡ true)
     unfolding lent is_lent
     looked_there x e = by (inside bytes span) (ltb span.length (2 ^ 28)) (sym (ap looked_said e) ∙ says) where
       by : (s t : Bool) → gives (tt {0}) ≡ pick s (pick t (gives (tt {0})) (refuses 22)) (refuses 19) → (pick s (pick t (gives x) (refuses 22)) (refuses 19) ≡ gives x) × ((s && t) ≡ true)
@@ -61,6 +60,6 @@ module _ (bytes : List ℕ) (span : Span) where
       by true false k = let z : ◌≡◌ {A = ℕ} 0 1 = cc in absurd (omega arith)
       by false t k = let z : ◌≡◌ {A = ℕ} 0 1 = cc in absurd (omega arith)
 
--- no more than five bytes of its own
-pub own_length : (own : Own) → own.n ≤ 5 → length (encode_payload (own_bytes own)) ≡ load_length own.n
+-- no more than the bytes of its own that there are
+pub own_length : (own : Own) → own.n ≤ length own.bytes → length (encode_payload (own_bytes own)) ≡ load_length own.n
 own_length own h = payload_size (own_bytes own) [] 0 own.n (length-take-le own.n (own_list own) h)

@@ -1,14 +1,18 @@
 -- What writing an event leaves, by its raw form and by the room.
-use mathlib.Core.Path.{◌≡◌, refl, ap}
-use mathlib.Core.Bool.{true}
+use Rattle.std.specs.Prelude.{Result, Ok, Err, IsOk}
+use Rattle.write.specs.declared.answer.Past.{Past}
+use Rattle.write.specs.declared.answer.WriteRefused.{WriteRefused}
+use Rattle.write.specs.Direct.{RoomAt}
+use Rattle.write.specs.Wrote.{wrote_event}
+use mathlib.Core.Path.{◌∙◌, ◌≡◌, refl, sym, ap}
 use mathlib.Core.List.{List}
 use Prim.Native.Nat.{ℕ, ◌+◌, ◌≤◌, ◌<◌}
+use native.Mathlib.Omega.{arith}
 use lib.ListN.{length}
 use Rattle.smf.specs.Answer.{Answer, gives, refuses}
-use Rattle.smf.specs.Running.{is_running}
 use Rattle.smf.specs.Wire.{RawEvent, encode_raw_event, running_after}
 use Rattle.smf.specs.Write.{over, left}
-use Rattle.smf.specs.Event.{Event, encode_event, event_written, write_judged, write_event}
+use Rattle.smf.specs.Event.{Event, EventWritten, encode_event, event_written, write_judged}
 use Rattle.smf.proofs.Write.{put_full, put_fits}
 use Rattle.write.specs.Raw.{raw_judged}
 use Rattle.write.specs.Wrote.{write_raw}
@@ -24,12 +28,18 @@ module _ (running : ℕ) (e : RawEvent) (s : List ℕ) (at : ℕ) where
   write_put h end b = rw b (ap (event_written running (running_after e.raw)) (put_fits (encode_raw_event running e) s at h))
 
 -- an event is written as its raw form is
-by_judged : (running : ℕ) (j : Answer (Event (List ℕ))) (s : List ℕ) (at : ℕ) → write_judged running j s at ≡ write_raw running (raw_judged j) s at
+pub by_judged : (running : ℕ) (j : Answer (Event (List ℕ))) (s : List ℕ) (at : ℕ) → write_judged running j s at ≡ write_raw running (raw_judged j) s at
 unfolding write_judged raw_judged write_raw encode_event
 by_judged running (gives e) s at = refl
 by_judged running (refuses n) s at = refl
 
--- from a valid running status
-pub write_valid : (running : ℕ) (j : Answer (Event (List ℕ))) (s : List ℕ) (at : ℕ) → is_running running ≡ true → write_event running j s at ≡ write_raw running (raw_judged j) s at
-unfolding write_event
-write_valid running j s at v = rw v (by_judged running j s at)
+-- what is legal and has room is written
+pub wrote_there : (running : ℕ) (judged : Answer RawEvent) (s : List ℕ) (at : ℕ) (r : Result Past WriteRefused) (end : List ℕ)
+    → RoomAt running judged at (length s) → wrote_event r end ≡ write_raw running judged s at → IsOk r
+unfolding write_raw
+wrote_there running judged s at (Ok p) end room e = refl
+wrote_there running judged s at (Err n) end room e =
+    let w = e ∙ ap (λ (j : Answer RawEvent). write_raw running j s at) room.1 ∙ ap (event_written running (running_after room.0.raw)) (sym (put_fits (encode_raw_event running room.0) s at room.2)) in
+    let q = ap (λ (x : EventWritten). x.written.answer) w in
+    let z : ◌≡◌ {A = ℕ} 0 1 = cc in
+    absurd (omega arith)

@@ -1,7 +1,12 @@
 -- Stores one behind the other are one write of what they store.
+use Rattle.std.specs.Prelude.{Result, Ok, Err}
+use Rattle.base.specs.declared.Refusal.{Refusal}
+use Rattle.number.specs.Varlen.{write_left}
+use Rattle.smf.specs.Write.{number_bytes}
+use Rattle.smf.proofs.Write.{number_bytes_lem}
 use mathlib.Core.Path.{◌≡◌, sym, ap, ◌∙◌}
 use mathlib.Core.List.{List, [], ◌∷◌, ◌++◌}
-use Prim.Native.Nat.{ℕ, ◌+◌, ◌/◌, ◌≤◌, ◌<◌}
+use Prim.Native.Nat.{ℕ, ◌+◌, ◌/◌, ◌≤◌, ◌<◌, ◌^◌}
 use native.Mathlib.Nat.{add-zero, mod-eq_of_lt}
 use native.Mathlib.Numerals.{add-one}
 use native.Mathlib.Omega.{arith}
@@ -60,6 +65,17 @@ pub small_number : (v : ℕ) → v < 128 → encode_number v ≡ v ∷ []
 unfolding encode_number
 small_number v h = rw (ahead_none 3 (v / 128) (omega arith), mod-eq_of_lt h)
 
+-- what is written where it fits says the place behind it
+there : (r : Result ℕ Refusal) (end : List ℕ) (n : ℕ) → (write_left r end).answer ≡ gives n → r ≡ Ok n
+there (Ok m) end n e = let w : m ≡ n = cc in ap Ok w
+there (Err m) end n e = let z : ◌≡◌ {A = ℕ} 0 1 = cc in absurd (omega arith)
+
+pub number_there : (v : ℕ) (s : List ℕ) (at : ℕ) (r : Result ℕ Refusal) (end : List ℕ) → v < 2 ^ 28 → at + length (encode_number v) ≤ length s
+    → write_left r end ≡ write (number_bytes v) s at → r ≡ Ok (at + length (encode_number v))
+number_there v s at r end f h e =
+    there r end (at + length (encode_number v))
+    (ap (λ (x : Written). x.answer) (e ∙ ap (λ (a : Answer (List ℕ)). write a s at) (number_bytes_lem v f) ∙ sym (put_fits (encode_number v) s at h)))
+
 -- a payload that was written where it fits
 pub payload_written : (bytes : List ℕ) (span : Span) (s : List ℕ) (at : ℕ) (w : Written) → Inside bytes span → at + load_length span.length ≤ length s
     → w ≡ write (payload_bytes bytes span.start span.length) s at → w.buffer ≡ over (encode_payload (bytes_of bytes span)) s at
@@ -69,6 +85,15 @@ payload_written bytes span s at w i h e =
     let l = payload_size p s at span.length (part_length bytes span i.within) in
     ap (λ (x : Written). x.buffer)
     (e ∙ ap (λ (a : Answer (List ℕ)). write a s at) (part_bytes bytes span.start span.length i.within i.short) ∙ sym (put_fits (encode_payload p) s at (omega arith)))
+
+pub payload_there : (bytes : List ℕ) (span : Span) (s : List ℕ) (at : ℕ) (r : Result ℕ Refusal) (end : List ℕ) → Inside bytes span → at + load_length span.length ≤ length s
+    → write_left r end ≡ write (payload_bytes bytes span.start span.length) s at → r ≡ Ok (at + load_length span.length)
+unfolding bytes_of
+payload_there bytes span s at r end i h e =
+    let p = take span.length (drop span.start bytes) in
+    let l = payload_size p s at span.length (part_length bytes span i.within) in
+    there r end (at + load_length span.length)
+    (ap (λ (x : Written). x.answer) (e ∙ ap (λ (a : Answer (List ℕ)). write a s at) (part_bytes bytes span.start span.length i.within i.short) ∙ sym (put_fits (encode_payload p) s at (omega arith))) ∙ ap (λ (n : ℕ). gives (at + n)) l)
 
 -- two parts of what is to be written, where there is room for both
 module _ (a b s : List ℕ) (at : ℕ) where

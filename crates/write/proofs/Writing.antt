@@ -1,4 +1,5 @@
 -- What a loop that writes a list keeps: the bytes of the events so far stand in front, and the next one has room.
+use Rattle.std.specs.Prelude.{Ok, Result}
 use mathlib.Core.Path.{◌≡◌, refl, sym, ap, ◌∙◌}
 use mathlib.Core.List.{List, [], ◌∷◌, ◌++◌, map, append_assoc}
 use Prim.Native.Nat.{ℕ, zero, suc, ◌+◌, ◌≤◌, ◌<◌}
@@ -21,8 +22,6 @@ use Rattle.write.specs.ListAnswers.{RoomFor, InFront}
 use Rattle.write.specs.Direct.{RoomAt}
 use Rattle.write.specs.declared.answer.Past.{Past}
 use Rattle.write.specs.declared.answer.WriteRefused.{WriteRefused}
-use Rattle.write.specs.declared.answer.WroteEvent.{WroteEvent}
-use Rattle.write.specs.declared.answer.WroteEvent.TheVariants as wrote
 
 -- the bytes of two lists, one behind the other
 encode_append : (running : ℕ) (xs ys : List (Event (List ℕ))) → encode_list running (xs ++ ys) ≡ encode_list running xs ++ encode_list (list_after running xs) ys
@@ -102,7 +101,7 @@ module _ (running : ℕ) (js : List (Answer (Event (List ℕ)))) (before : List 
       going_room = (raw_event whole.delta (raw_of whole.kind), ap raw_judged next.1, fits)
 
       -- and is written
-      module _ (r : WroteEvent) (end : List ℕ) (e : wrote_event r end ≡ write_raw status (raw_judged j) out place) where
+      module _ (r : Result Past WriteRefused) (end : List ℕ) (e : wrote_event r end ≡ write_raw status (raw_judged j) out place) where
         -- what is written
         is : wrote_event r end
             ≡ record { written = record { buffer = over (encode_event status whole) out place; answer = gives (place + length (encode_event status whole)) }; running = event_after whole }
@@ -112,16 +111,10 @@ module _ (running : ℕ) (js : List (Answer (Event (List ℕ)))) (before : List 
             ∙ ap (λ (y : Answer (Event (List ℕ))). write_raw status (raw_judged y) out place) next.1
             ∙ sym (ap (event_written status (event_after whole)) (put_fits (encode_event status whole) out place fits))
 
-        pub going_never : (n : WriteRefused) → r ≡ wrote.Refused n → ⊥
-        going_never n h =
-            let q = ap (λ (w : EventWritten). w.written.answer) (sym (ap (λ (x : WroteEvent). wrote_event x end) h) ∙ is) in
-            let z : ◌≡◌ {A = ℕ} 0 1 = cc in
-            omega arith
-
-        pub going_more : (p : Past) → r ≡ wrote.Next p → Going end p.next p.running.status (i + 1)
+        pub going_more : (p : Past) → r ≡ Ok p → Going end p.next p.running.status (i + 1)
         unfolding whole
         going_more p h =
-            let put = sym (ap (λ (x : WroteEvent). wrote_event x end) h) ∙ is in
+            let put = sym (ap (λ (x : Result Past WriteRefused). wrote_event x end) h) ∙ is in
             let at : place ≡ 0 + length (front i) = omega (arith, g.stands) in
             let q : gives p.next ≡ gives (place + length (encode_event status whole)) = ap (λ (w : EventWritten). w.written.answer) put in
             let on : p.next ≡ place + length (encode_event status whole) = cc in

@@ -1,5 +1,5 @@
 -- A row of a list as it stands among the list's cells: the channel message that it is, and when that is legal.
-use Rattle.std.specs.Prelude.{◌≡◌, List, ℕ, ◌+◌, ◌*◌, ◌^◌, ◌<◌, ◌≤◌, length, get_or}
+use Rattle.std.specs.Prelude.{◌≡◌, List, ℕ, ◌+◌, ◌*◌, ◌^◌, ◌<◌, ◌≤◌, length, get_or, Option, Some, None}
 use Rattle.smf.specs.Answer.{Answer, gives}
 use Rattle.smf.specs.Wire.{RawEvent, encode_raw_event}
 use Rattle.rows.specs.Rows.{width}
@@ -28,6 +28,11 @@ pub record Direct (rows : List ℕ) (at : ℕ) : Type 0 where
   pub channel : get_or rows (at + 2) 0 < 16
   pub first : (data_at rows at).a < 128
   pub second : (data_at rows at).b < 128
+
+-- a channel message that was taken from a row is the row's, and legal
+abbrev pub Taken : List ℕ → ℕ → Option Channel → Type 0
+Taken rows at (Some c) = Direct rows at × (c ≡ message_at rows at)
+Taken rows at None = Unit {0}
 
 -- an event that was judged legal, and whose bytes have room at a place
 abbrev pub RoomAt : ℕ → Answer RawEvent → ℕ → ℕ → Type 0

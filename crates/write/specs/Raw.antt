@@ -1,5 +1,7 @@
 -- The raw form of an event that may be written: SMF's, as the code holds it over the bytes lent, and document 01's legality.
-use Rattle.std.specs.Prelude.{◌≡◌, Bool, true, false, ◌&&◌, ◌||◌, List, [], ◌∷◌, ℕ, ◌+◌, ◌/◌, ◌%◌, ◌^◌, ◌<◌, ◌≤◌, ltb, leb, eqb, length, take}
+use Rattle.base.specs.declared.Refusal.{Refusal}
+use Rattle.write.specs.declared.raw.RawEvent.{RawEvent}
+use Rattle.std.specs.Prelude.{◌≡◌, Bool, true, false, ◌&&◌, ◌||◌, List, [], ◌∷◌, ℕ, ◌+◌, ◌/◌, ◌%◌, ◌^◌, ◌<◌, ◌≤◌, ltb, leb, eqb, length, take, Err, Ok, Result, ⊤}
 use Rattle.smf.specs.Answer.{pick, Answer, gives, refuses, and_then, Rules}
 use Rattle.smf.specs.Number.{encode_number}
 use Rattle.smf.specs.Place.{Span, inside, bytes_of}
@@ -8,18 +10,13 @@ use Rattle.smf.specs.Wire.{raw_event}
 use Rattle.smf.specs.Kind.{Kind, raw_of}
 use Rattle.smf.specs.Event.{Event, event, legal}
 use Rattle.base.specs.Refusal.{number_of}
+use Rattle.base.specs.Said.{said}
 use Rattle.meta.specs.Meta.{span_of}
 use Rattle.write.specs.declared.raw.Channel.{Channel}
 use Rattle.write.specs.declared.raw.Own.{Own}
 use Rattle.write.specs.declared.raw.Raw.{Raw}
 use Rattle.write.specs.declared.raw.Raw.TheVariants as raw
-use Rattle.write.specs.declared.raw.Made.{Made}
-use Rattle.write.specs.declared.raw.Made.TheVariants as made
-use Rattle.write.specs.declared.make.Looked.{Looked}
-use Rattle.write.specs.declared.make.Looked.TheVariants as looked
 use Rattle.write.specs.declared.row_door.Data.{Data}
-use Rattle.write.specs.declared.raw.Judged.{Judged}
-use Rattle.write.specs.declared.raw.Judged.TheVariants as judged
 
 -- the raw event of an event that was judged; the number of one that is forbidden stays what it is
 unfoldable pub raw_judged : Answer (Event (List ℕ)) → Answer wire.RawEvent
@@ -41,11 +38,11 @@ channel_raw c = pick c.pair (wire.two c.status c.a c.b) (wire.one c.status c.a)
 
 -- a payload of its own: the first n of five bytes
 abbrev pub own_of : ℕ → ℕ → ℕ → ℕ → ℕ → ℕ → Own
-own_of n a b c d e = record { n = n; a = a; b = b; c = c; d = d; e = e }
+own_of n a b c d e = record { n = n; bytes = a ∷ b ∷ c ∷ d ∷ e ∷ [] }
 
 -- the five bytes of a payload of its own
 abbrev pub own_list : Own → List ℕ
-own_list own = own.a ∷ own.b ∷ own.c ∷ own.d ∷ own.e ∷ []
+own_list own = own.bytes
 
 -- the bytes of it that count
 abbrev pub own_bytes : Own → List ℕ
@@ -67,23 +64,22 @@ unfoldable pub is_sound : List ℕ → Raw → Bool
 is_sound bytes (raw.Channel c) = true
 is_sound bytes (raw.System status load) = is_lent bytes (span_of load)
 is_sound bytes (raw.Typed t load) = is_lent bytes (span_of load)
-is_sound bytes (raw.Fixed t own) = leb own.n 5
+is_sound bytes (raw.Fixed t own) = leb own.n 5 && leb own.n (length own.bytes)
 
 -- a value whose payload is not there says nothing: 0 is no refusal's number, so that no promise permits one
-abbrev pub made_said : List ℕ → Made → Answer wire.Raw
-made_said bytes (made.Raw r) = pick (is_sound bytes r) (gives (wire_of bytes r)) (refuses 0)
-made_said bytes (made.Refused n) = refuses (number_of n)
+abbrev pub made_said : List ℕ → Result Raw Refusal → Answer wire.Raw
+made_said bytes (Ok r) = pick (is_sound bytes r) (gives (wire_of bytes r)) (refuses 0)
+made_said bytes (Err n) = refuses (number_of n)
 
 -- what looking for a payload says
-abbrev pub looked_said : Looked → Answer (Unit {0})
-looked_said looked.There = gives tt
-looked_said (looked.Refused n) = refuses (number_of n)
+abbrev pub looked_said : Result ⊤ Refusal → Answer (Unit {0})
+looked_said = said (λ _. tt)
 
 -- what a door says: the raw event, or the number that forbids it
-abbrev pub judged_said : List ℕ → Judged → Answer wire.RawEvent
-judged_said bytes (judged.Raw e) =
+abbrev pub judged_said : List ℕ → Result RawEvent Refusal → Answer wire.RawEvent
+judged_said bytes (Ok e) =
     pick (ltb e.delta.0 (2 ^ 28) && is_sound bytes e.raw) (gives (raw_event e.delta.0 (wire_of bytes e.raw))) (refuses 0)
-judged_said bytes (judged.Refused n) = refuses (number_of n)
+judged_said bytes (Err n) = refuses (number_of n)
 
 -- How many bytes
 
@@ -116,9 +112,9 @@ raw_after (raw.Fixed t own) = 0
 -- What the steps behind the doors go by
 
 -- an event that a door let through has a short delta, and its payload is there
-abbrev pub LetThrough : List ℕ → Judged → Type 0
-LetThrough bytes (judged.Raw e) = (e.delta.0 < 2 ^ 28) × (is_sound bytes e.raw ≡ true)
-LetThrough bytes (judged.Refused n) = Unit
+abbrev pub LetThrough : List ℕ → Result RawEvent Refusal → Type 0
+LetThrough bytes (Ok e) = (e.delta.0 < 2 ^ 28) × (is_sound bytes e.raw ≡ true)
+LetThrough bytes (Err n) = Unit
 
 -- a range that is inside the bytes lent, and short enough for a number
 pub record Inside (bytes : List ℕ) (span : Span) : Type 0 where

@@ -10,17 +10,26 @@ ghost use Rattle.rows.specs.RowEvent.{row_judged};
 ghost use Rattle.write.specs.Raw.{judged_said, raw_judged, channel_raw};
 ghost use Rattle.write.specs.Size.{length_said, raw_size};
 ghost use Rattle.write.specs.Wrote.{wrote_event, write_raw};
-ghost use Rattle.write.specs.Direct.{packed_of, message_at, Direct, RoomAt};
+ghost use Rattle.write.specs.Direct.{packed_of, message_at, Direct, Taken, RoomAt};
 
-use crate::answer::{EventLength, Past, Size, WroteEvent};
+use crate::answer::{Past, Size};
 use crate::length::channel_length;
 use crate::put::{put_channel, put_delta};
-use crate::raw::{Channel, Judged};
+use crate::raw::{Channel, RawEvent};
 use crate::row_door::{Data, data_of, row_raw};
 use crate::step::{measured, written};
 use base::{Refusal, Rules, Running};
 use number::u28;
 use rows::WIDTH;
+
+// So many rows, over the bytes lent.
+#[derive(Clone, Copy)]
+pub struct Rows<'a> {
+    pub cells: &'a [u64],
+    pub count: usize,
+    pub rules: Rules,
+    pub bytes: &'a [u8],
+}
 
 // The cells of a row that is all there.
 fn cells_at(rows: &[u64], at: usize) -> [u64; WIDTH]
@@ -28,11 +37,7 @@ fn cells_at(rows: &[u64], at: usize) -> [u64; WIDTH]
     ensures { result ≡ take width (drop at rows.now) }
 {
     let mut row = [0u64; WIDTH];
-    let mut i: usize = 0;
-    while i < WIDTH {
-        row[i] = rows[at + i];
-        i += 1;
-    }
+    row.copy_from_slice(&rows[at..at + WIDTH]);
     row
 }
 
@@ -40,23 +45,7 @@ fn cells_at(rows: &[u64], at: usize) -> [u64; WIDTH]
 fn is_there(rows: &[u64], at: usize) -> bool
     ensures { result ≡ leb (at + width) (length rows.now) }
 {
-    if rows.len() < WIDTH {
-        return false;
-    }
-    if rows.len() - WIDTH < at {
-        return false;
-    }
-    true
-}
-
-// The row that starts at a cell, through its door.
-fn judge_at(rows: &[u64], at: usize, rules: Rules, bytes: &[u8]) -> Judged
-    ensures { judged_said bytes.now result ≡ raw_judged (row_judged (rules_of rules) bytes.now (take width (drop at rows.now))) }
-{
-    if !is_there(rows, at) {
-        return Judged::Refused(Refusal::AboveWidth);
-    }
-    row_raw(cells_at(rows, at), rules, bytes)
+    WIDTH <= rows.len() && at <= rows.len() - WIDTH
 }
 
 // A channel message of its number, its channel and its data, which are within their widths.
@@ -72,89 +61,43 @@ fn packed(number: u64, channel: u64, bytes: Data) -> Channel
     }
 }
 
-// No channel message: its status is none.
-fn none() -> Channel
-    ensures { result.status ≡ 0 }
-{
-    Channel {
-        status: 0,
-        pair: false,
-        a: 0,
-        b: 0,
-    }
-}
-
-// The channel message of a row that is legal. Of what is none, or is not within its widths, a status of 0: whether it is
-// another kind, and by which number it is refused, is for the door to say.
-fn channel_at(rows: &[u64], at: usize) -> Channel
-    ensures { (result.status ≡ 0 → ⊥) → Direct rows.now at × (result ≡ message_at rows.now at) }
+// The channel message of a row that is legal, and none of any other: whether it is another kind, or by which number it is
+// refused, is for the door to say.
+fn channel_at(rows: &[u64], at: usize) -> Option<Channel>
+    ensures { Taken rows.now at result }
 {
     if !is_there(rows, at) {
-        return none();
+        return None; // not all there
     }
     let number = rows[at + 1];
-    if number < 8 {
-        return none();
-    }
-    if 15 <= number {
-        return none();
-    }
-    if 0x1000_0000 <= rows[at] {
-        return none();
-    }
     let channel = rows[at + 2];
-    if 16 <= channel {
-        return none();
+    if number < 8 || 15 <= number || 16 <= channel || 0x1000_0000 <= rows[at] {
+        return None;
     }
     let data = data_of(number, rows[at + 3], rows[at + 4]);
-    if 128 <= data.a {
-        return none();
+    if 128 <= data.a || 128 <= data.b {
+        return None;
     }
-    if 128 <= data.b {
-        return none();
-    }
-    packed(number, channel, data)
-}
-
-// How long the event of the row that starts at a cell is, or the number of what forbids it.
-pub fn measure_at(
-    rows: &[u64],
-    at: usize,
-    running: Running,
-    rules: Rules,
-    bytes: &[u8],
-) -> EventLength
-    ensures { length_said result ≡ and_then (raw_judged (row_judged (rules_of rules) bytes.now (take width (drop at rows.now)))) (λ raw. gives (raw_size running.status raw)) }
-{
-    let c = channel_at(rows, at);
-    let status = c.status;
-    if status != 0 {
-        let delta = u28(rows[at] as u32);
-        return EventLength::Length(Size {
-            length: delta.varlen_length() + channel_length(c, running),
-            running: Running { status },
-        });
-    }
-    measured(judge_at(rows, at, rules, bytes), running, bytes)
+    Some(packed(number, channel, data))
 }
 
 // Puts a delta and a channel message behind it, and answers where they end.
 fn put_message(delta: u28, c: Channel, running: Running, out: &mut [u8], at: usize) -> Past
     requires { (delta.0 < 2 ^ 28) × (at + length (encode_raw_event running.status (raw_event delta.0 (channel_raw c))) ≤ length out.old) }
-    ensures { wrote_event (WroteEvent.Next result) out.new ≡ write_raw running.status (gives (raw_event delta.0 (channel_raw c))) out.old at }
+    ensures { wrote_event (Ok result) out.new ≡ write_raw running.status (gives (raw_event delta.0 (channel_raw c))) out.old at }
 {
     let start = put_delta(delta, out, at);
     let next = put_channel(c, running, out, start);
     Past {
         next,
-        running: Running { status: c.status },
+        running: Running { status: c.status }, // its own status
     }
 }
 
 // Puts the channel message of a row that is legal and has room: nothing is looked at again.
 fn put_direct(rows: &[u64], at: usize, running: Running, out: &mut [u8], place: usize) -> Past
     requires { Direct rows.now at × (place + length (encode_raw_event running.status (raw_event (get_or rows.now at 0) (channel_raw (message_at rows.now at)))) ≤ length out.old) }
-    ensures { wrote_event (WroteEvent.Next result) out.new ≡ write_raw running.status (gives (raw_event (get_or rows.now at 0) (channel_raw (message_at rows.now at)))) out.old place }
+    ensures { wrote_event (Ok result) out.new ≡ write_raw running.status (gives (raw_event (get_or rows.now at 0) (channel_raw (message_at rows.now at)))) out.old place }
 {
     let number = rows[at + 1];
     let data = data_of(number, rows[at + 3], rows[at + 4]);
@@ -162,21 +105,42 @@ fn put_direct(rows: &[u64], at: usize, running: Running, out: &mut [u8], place: 
     put_message(u28(rows[at] as u32), c, running, out, place)
 }
 
-// Puts the event of the row that starts at a cell, which is legal and has room.
-pub fn write_at(
-    rows: &[u64],
-    at: usize,
-    running: Running,
-    rules: Rules,
-    bytes: &[u8],
-    out: &mut [u8],
-    place: usize,
-) -> WroteEvent
-    requires { RoomAt running.status (raw_judged (row_judged (rules_of rules) bytes.now (take width (drop at rows.now)))) place (length out.old) }
-    ensures { wrote_event result out.new ≡ write_raw running.status (raw_judged (row_judged (rules_of rules) bytes.now (take width (drop at rows.now)))) out.old place }
-{
-    if rows[at + 1] < 15 {
-        return WroteEvent::Next(put_direct(rows, at, running, out, place));
+impl<'a> Rows<'a> {
+    // The row that starts at a cell, through its door.
+    fn judge_at(&self, at: usize) -> Result<RawEvent, Refusal>
+        ensures { judged_said self.now.bytes.now result ≡ raw_judged (row_judged (rules_of self.now.rules) self.now.bytes.now (take width (drop at self.now.cells.now))) }
+    {
+        let rows = self.cells;
+        if !is_there(rows, at) {
+            return Err(Refusal::AboveWidth);
+        }
+        row_raw(cells_at(rows, at), self.rules, self.bytes)
     }
-    written(judge_at(rows, at, rules, bytes), running, bytes, out, place)
+
+    // How long the event of the row that starts at a cell is, or the number of what forbids it.
+    pub fn measure_at(&self, at: usize, running: Running) -> Result<Size, Refusal>
+        ensures { length_said result ≡ and_then (raw_judged (row_judged (rules_of self.now.rules) self.now.bytes.now (take width (drop at self.now.cells.now)))) (λ raw. gives (raw_size running.status raw)) }
+    {
+        let rows = self.cells;
+        if let Some(c) = channel_at(rows, at) {
+            let delta = u28(rows[at] as u32);
+            return Ok(Size {
+                length: delta.varlen_length() + channel_length(c, running),
+                running: Running { status: c.status },
+            });
+        }
+        measured(self.judge_at(at), running, self.bytes)
+    }
+
+    // Puts the event of the row that starts at a cell, which is legal and has room.
+    pub fn write_at(&self, at: usize, running: Running, out: &mut [u8], place: usize) -> Past
+        requires { RoomAt running.status (raw_judged (row_judged (rules_of self.now.rules) self.now.bytes.now (take width (drop at self.now.cells.now)))) place (length out.old) }
+        ensures { wrote_event (Ok result) out.new ≡ write_raw running.status (raw_judged (row_judged (rules_of self.now.rules) self.now.bytes.now (take width (drop at self.now.cells.now)))) out.old place }
+    {
+        let rows = self.cells;
+        if rows[at + 1] < 15 {
+            return put_direct(rows, at, running, out, place);
+        }
+        written(self.judge_at(at), running, self.bytes, out, place).unwrap()
+    }
 }

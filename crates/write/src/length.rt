@@ -10,7 +10,7 @@ use crate::raw::{Channel, Raw, RawEvent};
 use base::Running;
 use number::u28;
 
-// How many data bytes a channel message has.
+// How many data bytes a channel message has, by the flag that `raw::Channel` holds.
 fn data_length(pair: bool) -> usize
     ensures { result ≡ pick pair 2 1 }
 {
@@ -21,11 +21,7 @@ fn data_length(pair: bool) -> usize
 pub fn channel_length(c: Channel, running: Running) -> usize
     ensures { result ≡ length (status_bytes running.status c.status) + pick c.pair 2 1 }
 {
-    let n = data_length(c.pair);
-    if running.status == c.status {
-        return n;
-    }
-    n + 1
+    data_length(c.pair) + usize::from(running.status != c.status)
 }
 
 // How many bytes a payload has with its number in front.
@@ -49,7 +45,8 @@ fn body_length(raw: Raw, running: Running) -> usize
     }
 }
 
-// The running status after an event: its own status; none after what is no channel message.
+// The running status after an event: its own status; none after what is no channel message. Each form has an arm of its
+// own, so that one that is added is asked for.
 fn status_after(raw: Raw) -> u8
     ensures { result ≡ raw_after raw }
 {
@@ -66,11 +63,10 @@ pub fn raw_size(event: RawEvent, running: Running, bytes: &[u8]) -> Size
     requires { is_sound bytes.now event.raw ≡ true }
     ensures { size_of result ≡ raw_size running.status (raw_event event.delta.0 (wire_of bytes.now event.raw)) }
 {
-    let raw = event.raw;
-    let length = event.delta.varlen_length() + body_length(raw, running);
-    let status = status_after(raw);
     Size {
-        length,
-        running: Running { status },
+        length: event.delta.varlen_length() + body_length(event.raw, running),
+        running: Running {
+            status: status_after(event.raw),
+        },
     }
 }

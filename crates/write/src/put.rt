@@ -26,8 +26,7 @@ pub fn put_delta(delta: u28, out: &mut [u8], at: usize) -> usize
         out[at] = int as u8;
         return at + 1;
     }
-    delta.write_varlen(out, at);
-    at + delta.varlen_length()
+    delta.write_varlen(out, at).unwrap()
 }
 
 // The place of the data. The status byte is left out exactly when it is the running status: it is stored all the same,
@@ -71,7 +70,7 @@ fn put_load(lead: u8, bytes: &[u8], load: Range, out: &mut [u8], at: usize)
     ensures { out.new ≡ over (lead ∷ encode_payload (bytes_of bytes.now (span_of load))) out.old at }
 {
     out[at] = lead;
-    write_varlen_slice(bytes, load, out, at + 1);
+    write_varlen_slice(bytes, load, out, at + 1).unwrap(); // it is there, and has room
 }
 
 // Puts a meta message whose payload stands in the bytes lent.
@@ -85,21 +84,14 @@ fn put_typed(type_byte: u8, bytes: &[u8], load: Range, out: &mut [u8], at: usize
 
 // Puts a meta message whose payload is a few bytes of its own.
 fn put_fixed(type_byte: u8, own: Own, out: &mut [u8], at: usize)
-    requires { (own.n ≤ 5) × (at + (2 + load_length own.n) ≤ length out.old) }
+    requires { (own.n ≤ length own.bytes) × (at + (2 + load_length own.n) ≤ length out.old) }
     ensures { out.new ≡ over (0xFF ∷ type_byte ∷ encode_payload (own_bytes own)) out.old at }
 {
-    let n = own.n;
-    let bytes = [own.a, own.b, own.c, own.d, own.e];
-    put_typed(
-        type_byte,
-        &bytes,
-        Range {
-            start: 0,
-            length: n,
-        },
-        out,
-        at,
-    );
+    let load = Range {
+        start: 0,
+        length: own.n,
+    };
+    put_typed(type_byte, &own.bytes, load, out, at);
 }
 
 // Puts what stands behind the delta.
@@ -122,7 +114,6 @@ pub fn put_raw(event: RawEvent, running: Running, bytes: &[u8], out: &mut [u8], 
     requires { (event.delta.0 < 2 ^ 28) × (is_sound bytes.now event.raw ≡ true) × (at + length (encode_raw_event running.status (raw_event event.delta.0 (wire_of bytes.now event.raw))) ≤ length out.old) }
     ensures { out.new ≡ over (encode_raw_event running.status (raw_event event.delta.0 (wire_of bytes.now event.raw))) out.old at }
 {
-    let raw = event.raw;
     let start = put_delta(event.delta, out, at);
-    put_body(raw, running, bytes, out, start);
+    put_body(event.raw, running, bytes, out, start);
 }

@@ -11,7 +11,8 @@ use number::u28;
 #[derive(Clone, Copy)]
 pub struct Channel {
     pub status: u8,
-    // whether there are two data bytes
+    // whether there are two data bytes: a flag and no option, since an enum that is handed over goes through memory
+    // (docs/PERFORMANCE.md)
     pub pair: bool,
     pub a: u8,
     // 0 where there is one alone
@@ -19,14 +20,11 @@ pub struct Channel {
 }
 
 // A payload that stands in no bytes lent: the first n of five bytes. The bytes stand first, so that n lies where the
-// length of a `Range` does: with n first the compiler stores byte by byte what it then loads as one word.
+// length of a `Range` does: with n first the compiler stores byte by byte what it then loads as one word. They keep their
+// number beside them, since a slice could not outlive the function that makes them.
 #[derive(Clone, Copy)]
 pub struct Own {
-    pub a: u8,
-    pub b: u8,
-    pub c: u8,
-    pub d: u8,
-    pub e: u8,
+    pub bytes: [u8; 5],
     pub n: usize,
 }
 
@@ -43,15 +41,6 @@ pub enum Raw {
     Fixed(u8, Own),
 }
 
-// What stands behind a delta, or the number of what forbids it.
-#[derive(Clone, Copy)]
-pub enum Made {
-    // what stands behind the delta
-    Raw(Raw),
-    // 18, 19, 22 or 23
-    Refused(Refusal),
-}
-
 // An event that may be written, in its raw form.
 #[derive(Clone, Copy)]
 pub struct RawEvent {
@@ -59,25 +48,14 @@ pub struct RawEvent {
     pub raw: Raw,
 }
 
-// What a door answers: an event that may be written, or the number of what forbids it.
-#[derive(Clone, Copy)]
-pub enum Judged {
-    // the raw form of a legal event
-    Raw(RawEvent),
-    // 18, 19, 22 or 23, which forbids it
-    Refused(Refusal),
-}
-
 // The raw form of an event of its delta and what stands behind it. The delta's width is looked at first, since 18 comes
 // before all else that forbids an event.
-pub fn behind(delta: u28, made: Made) -> Judged
+pub fn behind(delta: u28, made: Result<Raw, Refusal>) -> Result<RawEvent, Refusal>
     ensures { (bytes : List ℕ) → judged_said bytes result ≡ pick (ltb delta.0 (2 ^ 28)) (and_then (made_said bytes made) (λ raw. gives (raw_event delta.0 raw))) (refuses 18) }
 {
     if 0x1000_0000 <= delta.0 {
-        return Judged::Refused(Refusal::AboveWidth);
+        return Err(Refusal::AboveWidth);
     }
-    match made {
-        Made::Refused(refusal) => Judged::Refused(refusal),
-        Made::Raw(raw) => Judged::Raw(RawEvent { delta, raw }),
-    }
+    let raw = made?;
+    Ok(RawEvent { delta, raw })
 }

@@ -1,19 +1,21 @@
 -- `key_signature` meets its contract, by the form of its type.
 use mathlib.Core.Path.{◌∙◌}
+use borrow.Author.Tests.{le-leb, lt-leb}
 use mir.Syntax.{w8}
 use mir.Facts.{to_z-of_z}
-use Rattle.smf.proofs.CalledAt.{called_key, called_short_key}
-use Rattle.base.specs.Rules.{rules_of}
-use Rattle.number.specs.Payload.{payload_of}
+use Rattle.smf.specs.Kind.{key_of}
+use Rattle.smf.specs.Event.{map_meta}
+use Rattle.smf.proofs.CalledAt.{form_key}
+use Rattle.meta.proofs.Called.{byte_is, called_is}
 use Rattle.meta.proofs.key_signature.Goals as goal
 
-pub returns-then-range-lt2 : goal.returns-then-range-lt2
-returns-then-range-lt2 c =
-    let a = c.args in
-    called_short_key (rules_of a.rules) a.raw.now (λ i. (c.type_inv.raw i).fits) (payload_of a.load) c.requires c.if-range-lt2.true
+pub returns-in_default : goal.returns-in_default
+returns-in_default c rules load = rw (form_key rules c.args.bytes.now, lt-leb _ _ c.in_default.len_below)
 
 pub returns : goal.returns
-returns c =
-    let a = c.args in
-    c.message.ensures
-    ∙ rw (to_z-of_z {w = w8} (record { sfits = c.from_byte-sharps.type_inv }), c.from_byte-sharps.ensures) (called_key (rules_of a.rules) a.raw.now (λ i. (c.type_inv.raw i).fits) (payload_of a.load) c.requires c.if-range-lt2.false)
+unfolding map_meta
+returns c rules load =
+    let p = c.args.bytes.now in
+    let small = c.type_inv.bytes in
+    rw (to_z-of_z {w = w8} (record { sfits = c.from_byte.type_inv }), c.from_byte.ensures, ← byte_is p small 0, ← byte_is p small 1)
+    (called_is rules p load 0x59 (key_of p) (form_key rules p ∙ rw (le-leb 2 _ c.in-len2-up.len_at_least)))

@@ -1,15 +1,16 @@
--- `track_number` meets its contract, by the form of its type.
-use mathlib.Core.Bool.{true}
-use Rattle.smf.proofs.CalledAt.{called_number, called_no_number}
-use Rattle.number.specs.Payload.{payload_of}
+-- `track_number` meets its contract: two bytes are enough.
+use borrow.Author.Tests.{le-leb, lt-leb}
+use Rattle.smf.specs.Kind.{track_number_of}
+use Rattle.smf.specs.Event.{map_meta}
+use Rattle.meta.proofs.Called.{byte_is}
 use Rattle.meta.proofs.track_number.Goals as goal
 
-pub returns-then-load-ge2 : goal.returns-then-load-ge2
-returns-then-load-ge2 c =
-    let a = c.args in
-    rw c.word.ensures (called_number (record { strict = true }) a.raw.now (λ i. (c.type_inv.raw i).fits) (payload_of a.load) c.requires c.if-load-ge2.true)
+pub returns-in-len2-up : goal.returns-in-len2-up
+unfolding map_meta track_number_of
+returns-in-len2-up c span =
+    let p = c.args.bytes.now in
+    rw (c.word.ensures, le-leb _ _ c.in-len2-up.len_at_least, byte_is p c.type_inv.bytes 0, byte_is p c.type_inv.bytes 1)
 
-pub returns-else-load-ge2 : goal.returns-else-load-ge2
-returns-else-load-ge2 c =
-    let a = c.args in
-    called_no_number (record { strict = true }) a.raw.now (λ i. (c.type_inv.raw i).fits) (payload_of a.load) c.requires c.if-load-ge2.false
+pub returns-in_default : goal.returns-in_default
+unfolding map_meta track_number_of
+returns-in_default c span = rw (lt-leb _ _ c.in_default.len_below)

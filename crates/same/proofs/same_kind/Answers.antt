@@ -7,7 +7,6 @@ returns-then-same_fields c =
     load_tells _ _ c.args.a c.args.b _ _ c.kind_row-a_row.ensures c.kind_row-b_row.ensures _ _ c.well_formed.0 c.well_formed.1.1.0
     c.same_fields.result c.same_load.result c.same_fields.ensures c.if-same_fields.true c.same_load.ensures
 
-pub returns : goal.returns
-returns c =
-    fields_differ _ _ c.args.a c.args.b _ _ c.kind_row-a_row.ensures c.kind_row-b_row.ensures c.same_fields.result c.same_fields.ensures
-    c.if-same_fields.false
+pub returns-else-same_fields : goal.returns-else-same_fields
+returns-else-same_fields c =
+    rw c.if-same_fields.false (fields_differ _ _ c.args.a c.args.b _ _ c.kind_row-a_row.ensures c.kind_row-b_row.ensures c.same_fields.result c.same_fields.ensures c.if-same_fields.false)

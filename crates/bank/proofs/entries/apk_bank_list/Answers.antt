@@ -7,26 +7,26 @@ use Rattle.bank.specs.Bank.{most_tracks}
 use Rattle.bank.proofs.Answered.{said_within, said_unlisted, said_listed, range_bytes}
 use Rattle.bank.proofs.entries.apk_bank_list.Goals as goal
 
-pub overflow_add-end : goal.overflow_add-end
-overflow_add-end c =
+pub overflow_add-track : goal.overflow_add-track
+overflow_add-track c =
     let a = c.args in
     let t = c.bank_track in
-    omega (arith, said_within most_tracks a.block.now a.index t.result t.ensures _ c.in-Track.is)
+    omega (arith, said_within most_tracks a.block.now a.index t.result t.ensures _ c.in-Ok.is)
 
 pub slice_bounds-track-end : goal.slice_bounds-track-end
 slice_bounds-track-end c =
     let a = c.args in
     let t = c.bank_track in
-    said_within most_tracks a.block.now a.index t.result t.ensures _ c.in-Track.is
+    said_within most_tracks a.block.now a.index t.result t.ensures _ c.in-Ok.is
 
-pub returns-in-Refused : goal.returns-in-Refused
-returns-in-Refused c =
+pub returns-in-Err : goal.returns-in-Err
+returns-in-Err c =
     let a = c.args in
     let t = c.bank_track in
-    rw (said_unlisted most_tracks a.block.now a.index t.result t.ensures (from_bits a.bits) capacity _ c.in-Refused.is) (record { answer = c.number.ensures; rows = refl; count = refl; place = refl; after = refl; padding = refl })
+    rw (said_unlisted most_tracks a.block.now a.index t.result t.ensures (from_bits a.bits) capacity _ c.in-Err.is) (record { answer = c.from.ensures; rows = refl; count = refl; place = refl; after = refl; padding = refl })
 
-pub returns-in-Track : goal.returns-in-Track
-returns-in-Track c =
+pub returns-in-Ok : goal.returns-in-Ok
+returns-in-Ok c =
     let a = c.args in
     let t = c.bank_track in
-    rw (said_listed most_tracks a.block.now a.index t.result t.ensures (from_bits a.bits) capacity _ c.in-Track.is, ← range_bytes a.block.now c.in-Track.range) c.apk_list_read.ensures
+    rw (said_listed most_tracks a.block.now a.index t.result t.ensures (from_bits a.bits) capacity _ c.in-Ok.is, ← range_bytes a.block.now c.in-Ok.range) c.apk_list_read.ensures

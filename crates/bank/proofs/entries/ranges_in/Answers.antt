@@ -11,10 +11,10 @@ loop-index-init c = (omega arith, filled_none _ most_tracks c.no_tracks-ranges.r
 
 pub loop-index-preserved : goal.loop-index-preserved
 unfolding range_in
-loop-index-preserved c = let l = c.loop-index in (omega arith, filled_more _ most_tracks l.ranges l.index _ (omega arith) l.invariant.1 refl)
+loop-index-preserved c = let l = c.loop-index in (omega arith, filled_more _ most_tracks l.range-items l.index _ (omega arith) l.invariant.1 refl)
 
 pub returns : goal.returns
 returns c =
     let l = c.loop-index in
     let end : l.index ≡ most_tracks = omega (arith, l.invariant.0) in
-    filled_all _ most_tracks l.ranges (rw end at l.invariant.1)
+    filled_all _ most_tracks l.range-items (rw end at l.invariant.1)

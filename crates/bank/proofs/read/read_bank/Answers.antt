@@ -17,31 +17,35 @@ abbrev asked : Answer (List Span) → BankAnswer
 asked = bank_answer most_tracks
 
 pub returns-then-size-lt4 : goal.returns-then-size-lt4
-returns-then-size-lt4 c = let a = c.args in c.refused.ensures ∙ ap asked (sym (no_count most_tracks a.block.now (omega arith)))
+unfolding bank_answer
+returns-then-size-lt4 c = let a = c.args in ap asked (sym (no_count most_tracks a.block.now (omega arith)))
 
 pub returns-then-count-gt-TRACKS : goal.returns-then-count-gt-TRACKS
+unfolding bank_answer
 returns-then-count-gt-TRACKS c =
     let a = c.args in
-    c.refused-then-count-gt-TRACKS.ensures ∙ ap asked (sym (many most_tracks a.block.now (omega arith) (omega (arith, c.wide_at-count.ensures.0))))
+    ap asked (sym (many most_tracks a.block.now (omega arith) (omega (arith, c.wide_at-count.ensures.0))))
 
 pub returns-then-size-count : goal.returns-then-size-count
+unfolding bank_answer
 returns-then-size-count c =
     let a = c.args in
     let w = c.wide_at-count.ensures.0 in
-    c.refused-then-size-count.ensures ∙ ap asked (sym (short most_tracks a.block.now (omega arith) (omega (arith, w)) (omega (arith, w))))
+    ap asked (sym (short most_tracks a.block.now (omega arith) (omega (arith, w)) (omega (arith, w))))
 
 pub returns-then-size-gt-LARGEST : goal.returns-then-size-gt-LARGEST
+unfolding bank_answer
 returns-then-size-gt-LARGEST c =
     let a = c.args in
     let w = c.wide_at-count.ensures.0 in
-    c.refused-then-size-gt-LARGEST.ensures ∙ ap asked (sym (large most_tracks a.block.now (omega arith) (omega (arith, w)) (omega (arith, w)) (omega arith)))
+    ap asked (sym (large most_tracks a.block.now (omega arith) (omega (arith, w)) (omega (arith, w)) (omega arith)))
 
 pub returns-then-wide_at-size : goal.returns-then-wide_at-size
+unfolding bank_answer
 returns-then-wide_at-size c =
     let a = c.args in
     let w = c.wide_at-count.ensures.0 in
-    c.refused-then-wide_at-size.ensures
-    ∙ ap asked (sym (other_total most_tracks a.block.now (omega arith) (omega (arith, w)) (omega (arith, w)) (omega arith) (λ e. c.if-wide_at-size.true (c.wide_at.ensures.0 ∙ e))))
+    ap asked (sym (other_total most_tracks a.block.now (omega arith) (omega (arith, w)) (omega (arith, w)) (omega arith) (λ e. c.if-wide_at-size.true (c.wide_at.ensures.0 ∙ e))))
 
 pub returns : goal.returns
 returns c =

@@ -2,6 +2,7 @@
 use mathlib.Core.Path.{refl, sym, ◌∙◌}
 use native.Mathlib.Omega.{arith}
 use Rattle.bank.specs.Bank.{most_tracks}
+use Rattle.bank.specs.Answers.{bank_answer}
 use Rattle.bank.proofs.Gaps.{walked_first, walked_length, walked_apart, walked_more, walked_short, walked_all}
 use Rattle.bank.proofs.read.read_tracks.Goals as goal
 
@@ -12,10 +13,11 @@ pub wide_at-requires : goal.wide_at-requires
 wide_at-requires c = omega (arith, c.requires.count_in_bounds)
 
 pub returns-then-wide_at-place : goal.returns-then-wide_at-place
+unfolding bank_answer
 returns-then-wide_at-place c =
     let w = c.loop-index.invariant.1 in
     let a = c.args in
-    c.refused.ensures ∙ walked_apart most_tracks a.count _ a.block.now w (omega arith) (λ e. c.if-wide_at-place.true (c.wide_at.ensures.0 ∙ e))
+    walked_apart most_tracks a.count _ a.block.now w (omega arith) (λ e. c.if-wide_at-place.true (c.wide_at.ensures.0 ∙ e))
 
 pub wide_at-length-requires : goal.wide_at-length-requires
 wide_at-length-requires c = omega (arith, c.requires.count_in_bounds)
@@ -36,10 +38,11 @@ loop-index-preserved c =
     (l.invariant.0, walked_more most_tracks a.count l.invariant.0 a.block.now l.invariant.1 (omega arith) c.wide_at-length.result _ (sym c.wide_at.ensures.0 ∙ c.if-wide_at-place.false) c.wide_at-length.ensures.0 c.wide_at-length.ensures.1 refl)
 
 pub returns-then-place-block : goal.returns-then-place-block
+unfolding bank_answer
 returns-then-place-block c =
     let l = c.loop-index in
     let a = c.args in
-    c.refused-then-place-block.ensures ∙ walked_short most_tracks a.count l.invariant.0 a.block.now l.invariant.1 (omega arith) (λ e. c.if-place-block.true e)
+    walked_short most_tracks a.count l.invariant.0 a.block.now l.invariant.1 (omega arith) (λ e. c.if-place-block.true e)
 
 pub returns : goal.returns
 returns c =

@@ -5,4 +5,4 @@ use Rattle.bank.proofs.read.wide_at.Goals as goal
 
 pub returns : goal.returns
 unfolding wide_from
-returns c = (rw (c.word-high.ensures, c.word-low.ensures), omega arith)
+returns c = (omega (arith, c.from_be_bytes.ensures), omega arith)

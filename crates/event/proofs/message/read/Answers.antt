@@ -40,4 +40,4 @@ returns-in_default c =
     let not-11 : upper ≢ 11 = omega arith in
     let not-12 : upper ≢ 12 = omega arith in
     let not-13 : upper ≢ 13 = omega arith in
-    rw (ne_eqb _ _ not-12, ne_eqb _ _ not-13, ne_eqb _ _ not-8, ne_eqb _ _ not-9, ne_eqb _ _ not-10, ne_eqb _ _ not-11)
+    rw (c.from-lsb.ensures, c.from-msb.ensures, ne_eqb _ _ not-12, ne_eqb _ _ not-13, ne_eqb _ _ not-8, ne_eqb _ _ not-9, ne_eqb _ _ not-10, ne_eqb _ _ not-11)

@@ -1,16 +1,20 @@
 -- `write_varlen_slice` meets its contract: the number, and behind it the bytes.
 use Prim.Native.Nat.{◌≤◌, ◌<◌, ◌+◌, ◌-◌}
-use mathlib.Core.Path.{◌≡◌, sym, ◌∙◌}
+use mathlib.Core.Path.{◌≡◌, sym, ap, ◌∙◌}
 use mathlib.Core.List.{List}
 use Prim.Native.Nat.{ℕ}
 use native.Mathlib.Omega.{arith}
+use borrow.Author.Rules.{rules}
+use Rattle.std.specs.Prelude.{Err}
+use Rattle.base.specs.declared.Refusal.TheVariants as refusal
+use Rattle.number.proofs.PayloadCopy.{copied, ended}
 use lib.ListN.{length, take, drop, length-drop}
 use lib.Seq.{length-take-le}
 use Rattle.smf.specs.Number.{encode_number}
 use Rattle.smf.specs.Payload.{encode_payload}
-use Rattle.smf.specs.Write.{left, write, payload_bytes}
+use Rattle.smf.specs.Write.{over, left, write, payload_bytes}
 use Rattle.smf.proofs.Number.{encode_most}
-use Rattle.smf.proofs.Write.{put_fits, put_full, inside_within, inside_beyond, part_outside, part_long, part_bytes, number_put, payload_size, payload_put}
+use Rattle.smf.proofs.Write.{put_fits, put_full, inside_within, inside_beyond, part_outside, part_long, part_bytes, payload_size, payload_put}
 use Rattle.number.proofs.payload.write_varlen_slice.Goals as goal
 use Rattle.number.proofs.payload.write_varlen_slice.Goals.{After-varlen_length}
 
@@ -49,24 +53,31 @@ returns-then-n-gt268435455 c =
     let a = c.args in
     rw (part_long a.bytes.now a.slice.start a.slice.length (inside_within a.bytes.now _ (sym c.is_inside.ensures ∙ c.if-not-is_inside.false)) (omega arith))
 
-pub overflow_add-size : goal.overflow_add-size
-overflow_add-size c = omega (arith, c.varlen_length.ensures, encode_most c.args.slice.length)
+pub overflow_add-varlen_length : goal.overflow_add-varlen_length
+overflow_add-varlen_length c = omega (arith, c.varlen_length.ensures, encode_most c.args.slice.length)
 
-pub returns-then-out-size : goal.returns-then-out-size
-returns-then-out-size c = full (goal.at.returns-then-out-size c).After-varlen_length (omega arith)
+pub returns-in_err-end : goal.returns-in_err-end
+returns-in_err-end c =
+    let e : c.from_residual.result ≡ Err refusal.NoRoom = search rules in
+    rw e (full (goal.at.returns-in_err-end c).After-varlen_length (omega (arith, c.in_err-end.ensures.full)))
 
-pub returns-then-out-size-2 : goal.returns-then-out-size-2
-returns-then-out-size-2 c = full (goal.at.returns-then-out-size-2 c).After-varlen_length (omega arith)
+pub overflow_add-start : goal.overflow_add-start
+overflow_add-start c = let w = within (goal.at.overflow_add-start c).After-varlen_length in search (rules, w)
 
-pub copy_part-requires : goal.copy_part-requires
-copy_part-requires c = (within (goal.at.copy_part-requires c).After-varlen_length, omega arith)
+pub slice_bounds-copy_from_slice-end-2 : goal.slice_bounds-copy_from_slice-end-2
+slice_bounds-copy_from_slice-end-2 c = let w = within (goal.at.slice_bounds-copy_from_slice-end-2 c).After-varlen_length in search (rules, w)
 
 pub returns : goal.returns
 unfolding part
 returns c =
     let a = c.args in
-    let fit : a.at + length (encode_payload (part (goal.at.returns c).After-varlen_length)) ≤ length a.out.now = omega (arith, size (goal.at.returns c).After-varlen_length, c.varlen_length.ensures) in
-    let l = number_put a.slice.length a.out.now a.at _ (omega arith) (omega (arith, c.varlen_length.ensures)) c.write_varlen.ensures in
-    let n : c.varlen_length.result + a.slice.length ≡ length (encode_payload (part (goal.at.returns c).After-varlen_length)) = omega (arith, size (goal.at.returns c).After-varlen_length, c.varlen_length.ensures) in
-    let m = payload_put (part (goal.at.returns c).After-varlen_length) a.out.now a.at a.slice.length (long (goal.at.returns c).After-varlen_length) _ _ (a.at + (c.varlen_length.result + a.slice.length) - a.slice.length) (omega arith) l c.copy_part.ensures (omega (arith, c.varlen_length.ensures)) in
-    rw (part_bytes a.bytes.now a.slice.start a.slice.length (within (goal.at.returns c).After-varlen_length) (omega arith), n, m) (put_fits (encode_payload (part (goal.at.returns c).After-varlen_length)) a.out.now a.at fit)
+    let there = (goal.at.returns c).After-varlen_length in
+    let e = c.in_ok-end.ensures.fits in
+    let l = c.varlen_length.ensures in
+    let n = a.slice.length in
+    let same : a.slice.start + n - a.slice.start ≡ n = omega arith in
+    let first : c.in_ok-end.end - n - length (encode_number n) ≡ a.at = omega (arith, e, l) in
+    let behind : c.in_ok-end.end ≡ a.at + length (encode_payload (part there)) = omega (arith, e, l, size there) in
+    let copy = copied c.put.new.out _ (part there) (c.in_ok-end.end - n) (c.in_ok-end.end - (c.in_ok-end.end - n)) (c.copy_from_slice.ensures.after ∙ ap (λ (m : ℕ). take m (drop a.slice.start a.bytes.now)) same) (omega (arith, long there, e)) in
+    let whole = payload_put (part there) a.out.now a.at n (long there) _ _ (c.in_ok-end.end - n) (omega (arith, e)) (c.put.ensures ∙ ap (over (encode_number n) a.out.now) first) copy (omega (arith, e, l)) in
+    rw (part_bytes a.bytes.now a.slice.start n (within there) (omega arith)) (ended whole behind (put_fits (encode_payload (part there)) a.out.now a.at (omega (arith, e, l, size there))))

@@ -1,12 +1,9 @@
 use mathlib.Core.List.{map}
-use Prim.Native.Nat.{◌≤◌, ◌-◌}
+use Prim.Native.Nat.{◌≤◌}
 use lib.ListN.{length}
 use Rattle.track.specs.List.{record_of}
 use Rattle.player.proofs.Steps.{Played}
 use Rattle.player.proofs.notes.after.Given as goal
 
-abbrev pub invariant-loop-index : goal.invariant-loop-index
-invariant-loop-index l = (l.count ≤ length (map record_of l.list.records)) × Played l.table (map record_of l.list.records) l.count l.index l.left
-
-abbrev pub decreases-loop-index : goal.decreases-loop-index
-decreases-loop-index l = l.count - l.index
+abbrev pub invariant-loop-kept : goal.invariant-loop-kept
+invariant-loop-kept l = (l.fn.list.count ≤ length (map record_of l.fn.list.records)) × Played l.fn.table (map record_of l.fn.list.records) l.fn.list.count l.kept-index l.left

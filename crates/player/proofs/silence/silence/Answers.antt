@@ -6,11 +6,11 @@ use Rattle.player.proofs.silence.silence.Goals as goal
 
 pub returns-then-channel-ge16 : goal.returns-then-channel-ge16
 unfolding silence beside
-returns-then-channel-ge16 c = rw (c.number.ensures, c.new.ensures, le-ltb _ _ c.if-channel-ge16.true)
+returns-then-channel-ge16 c = rw (le-ltb _ _ c.if-channel-ge16.true)
 
 pub returns-then-key-ge128 : goal.returns-then-key-ge128
 unfolding silence beside
-returns-then-key-ge128 c = rw (c.number-then-key-ge128.ensures, c.new-then-key-ge128.ensures, lt-ltb _ _ c.if-channel-ge16.false, le-ltb _ _ c.if-key-ge128.true)
+returns-then-key-ge128 c = rw (lt-ltb _ _ c.if-channel-ge16.false, le-ltb _ _ c.if-key-ge128.true)
 
 pub returns : goal.returns
 unfolding silence beside

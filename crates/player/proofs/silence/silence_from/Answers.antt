@@ -8,8 +8,8 @@ use Rattle.player.proofs.silence.silence_from.Goals.{then-sounds, else-sounds}
 pub loop-place-init : goal.loop-place-init
 loop-place-init c = scanned_first _ _ _ _ _ c.new-list.ensures
 
-pub returns-then-count-ge-CAPACITY : goal.returns-then-count-ge-CAPACITY
-returns-then-count-ge-CAPACITY c = scanned_full _ _ _ c.loop-place.invariant c.if-count-ge-CAPACITY.true
+pub returns-then-list-ge-CAPACITY : goal.returns-then-list-ge-CAPACITY
+returns-then-list-ge-CAPACITY c = scanned_full _ _ _ c.loop-place.invariant c.if-list-ge-CAPACITY.true
 
 pub loop-place-preserved : goal.loop-place-preserved
 loop-place-preserved c =
@@ -17,7 +17,7 @@ loop-place-preserved c =
     elim c.if-sounds.branch [
       | then-sounds w ↦
           rw w.list-is
-          (scanned_sounding _ _ _ s c.if-count-ge-CAPACITY.false c.loop-place-test.true (is_sounding _ (sym c.sounds.ensures ∙ w.if-sounds.true)) w.recorded-kept.result (w.recorded-kept.ensures ∙ w.note_off.ensures))
+          (scanned_sounding _ _ _ s c.if-list-ge-CAPACITY.false c.loop-place-test.true (is_sounding _ (sym c.sounds.ensures ∙ w.if-sounds.true)) w.recorded.result (w.recorded.ensures ∙ w.note_off.ensures))
       | else-sounds w ↦ rw w.list-is (scanned_silent _ _ _ s c.loop-place-test.true (is_silent _ (sym c.sounds.ensures ∙ w.if-sounds.false)))
     ]
 

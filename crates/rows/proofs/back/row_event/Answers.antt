@@ -20,11 +20,6 @@ returns-then-not-fields_fit c =
     let l : length r ≡ width = search rules in
     fields_above r l c.if-delta-ge4294967296.false (sym f.ensures ∙ c.if-not-fields_fit.true)
 
-pub kind-requires : goal.kind-requires
-kind-requires c =
-    let f = c.fields_fit in
-    sym f.ensures ∙ c.if-not-fields_fit.false
-
 pub returns : goal.returns
 unfolding called_row
 returns c =

@@ -3,18 +3,12 @@ use native.Mathlib.Omega.{arith}
 use Rattle.rows.proofs.ShortReads.{found_one, found_two}
 use Rattle.rows.proofs.short.short_data.Goals as goal
 
-pub returns-then-a-ge128 : goal.returns-then-a-ge128
-returns-then-a-ge128 c = λ found. absurd (found c.other.ensures)
-
 pub returns-then-status-eq6 : goal.returns-then-status-eq6
 returns-then-status-eq6 c =
     let a = c.args in
-    λ found. found_one a.raw.now a.at a.place a.status c.requires.1 (omega (arith, c.if-a-ge128.false)) c.if-status-eq6.true
-
-pub returns-then-b-ge128 : goal.returns-then-b-ge128
-returns-then-b-ge128 c = λ found. absurd (found c.other-then-b-ge128.ensures)
+    found_one a.raw.now a.at a.place a.status c.requires.1 (omega (arith, c.if-a-ge128.false)) c.if-status-eq6.true
 
 pub returns : goal.returns
 returns c =
     let a = c.args in
-    λ found. found_two a.raw.now a.at a.place a.status c.requires.1 (omega (arith, c.if-a-ge128.false)) c.if-status-eq6.false (omega (arith, c.if-b-ge128.false))
+    found_two a.raw.now a.at a.place a.status c.requires.1 (omega (arith, c.if-a-ge128.false)) c.if-status-eq6.false (omega (arith, c.if-b-ge128.false))

@@ -20,7 +20,7 @@ pub packed-requires : goal.packed-requires
 packed-requires c = search rules
 
 pub returns : goal.returns
-returns c = λ some.
+returns c =
     let d = c.data_of-data.ensures in (
       record {
         there = there (goal.at.returns c).After-is_there c.if-not-is_there.false;

@@ -49,16 +49,16 @@ unfolding is_text
 returns-in-DeviceName c = rw c.in-DeviceName.is (c.typed-in-DeviceName.ensures ∙ sym (text_made _ _ _ _ refl))
 
 pub returns-in-MidiChannel : goal.returns-in-MidiChannel
-returns-in-MidiChannel c = rw (c.in-MidiChannel.is, channel_made) (c.narrow.ensures _)
+returns-in-MidiChannel c = rw (c.in-MidiChannel.is, channel_made) (rw c.from.ensures at (c.narrow.ensures c.args.bytes.now))
 
 pub returns-in-MidiPort : goal.returns-in-MidiPort
-returns-in-MidiPort c = rw (c.in-MidiPort.is, port_made) (c.narrow-in-MidiPort.ensures _)
+returns-in-MidiPort c = rw (c.in-MidiPort.is, port_made) (rw c.from-in-MidiPort.ensures at (c.narrow-in-MidiPort.ensures c.args.bytes.now))
 
 pub returns-in-EndOfTrack : goal.returns-in-EndOfTrack
 returns-in-EndOfTrack c = rw (c.in-EndOfTrack.is, end_made) (c.own_bytes.ensures _)
 
 pub returns-in-Tempo : goal.returns-in-Tempo
-returns-in-Tempo c = rw (c.in-Tempo.is, tempo_made) (c.tempo.ensures _)
+returns-in-Tempo c = rw (c.in-Tempo.is, tempo_made) (rw c.from-in-Tempo.ensures at (c.tempo.ensures c.args.bytes.now))
 
 pub returns-in-SmpteOffset : goal.returns-in-SmpteOffset
 returns-in-SmpteOffset c = rw c.in-SmpteOffset.is (c.time.ensures _)

@@ -2,7 +2,8 @@
 use mathlib.Core.Bool.{Bool, true, false}
 use Prim.Native.Nat.{◌≤◌}
 use native.Mathlib.Omega.{arith}
-use borrow.Author.Tests.{eq-eqb, ne_eqb}
+use lib.Dec.{eqb}
+use Rattle.smf.proofs.Answer.{by_test}
 use Rattle.smf.specs.Answer.{pick}
 use Rattle.write.proofs.length.channel_length.Goals as goal
 
@@ -11,13 +12,16 @@ data_few : (t : Bool) → pick t 2 1 ≤ 2
 data_few true = omega arith
 data_few false = omega arith
 
-pub returns-then-running-c : goal.returns-then-running-c
-returns-then-running-c c =
-    let a = c.args in
-    rw (eq-eqb a.running.status a.c.status c.if-running-c.true) (omega (arith, c.data_length-n.ensures))
-
 pub overflow_add-result : goal.overflow_add-result
-overflow_add-result c = omega (arith, c.data_length-n.ensures, data_few c.args.c.pair)
+overflow_add-result c =
+    let a = c.args in
+    by_test (eqb a.running.status a.c.status)
+    (λ e. omega (arith, rw e at c.from.ensures, c.data_length.ensures, data_few a.c.pair))
+    (λ e. omega (arith, rw e at c.from.ensures, c.data_length.ensures, data_few a.c.pair))
 
 pub returns : goal.returns
-returns c = rw (ne_eqb _ _ c.if-running-c.false) (omega (arith, c.data_length-n.ensures))
+returns c =
+    let a = c.args in
+    by_test (eqb a.running.status a.c.status)
+    (λ e. rw e (omega (arith, rw e at c.from.ensures, c.data_length.ensures)))
+    (λ e. rw e (omega (arith, rw e at c.from.ensures, c.data_length.ensures)))

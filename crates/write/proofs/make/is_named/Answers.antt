@@ -1,6 +1,7 @@
 -- `is_named` meets its contract, type by type.
 use mathlib.Core.Path.{◌≡◌, refl}
 use mathlib.Core.Bool.{Bool, true, false, ◌||◌}
+use Prim.Native.Nat.{◌≤◌, ◌<◌}
 use native.Mathlib.Omega.{arith}
 use borrow.Author.Tests.{le-leb, lt-leb, ne_eqb}
 use Rattle.smf.specs.Event.{is_named}
@@ -11,9 +12,9 @@ alone : (t : Bool) → (t || false) ≡ t
 alone true = refl
 alone false = refl
 
-pub returns-then-type_byte-le9 : goal.returns-then-type_byte-le9
+pub returns-in-0-to-9 : goal.returns-in-0-to-9
 unfolding is_named
-returns-then-type_byte-le9 c = rw (le-leb _ _ c.if-type_byte-le9.true)
+returns-in-0-to-9 c = let low : c.args.type_byte ≤ 9 = omega arith in rw (le-leb _ _ low)
 
 pub returns-in-47 : goal.returns-in-47
 unfolding is_named
@@ -59,4 +60,5 @@ returns-in_default c =
     let n81 : t ≡ 81 → ⊥ = omega arith in
     let n84 : t ≡ 84 → ⊥ = omega arith in
     let n88 : t ≡ 88 → ⊥ = omega arith in
-    rw (lt-leb _ _ c.if-type_byte-le9.false, ne_eqb _ _ n47, ne_eqb _ _ n89, ne_eqb _ _ n127, ne_eqb _ _ n32, ne_eqb _ _ n33, ne_eqb _ _ n81, ne_eqb _ _ n84, ne_eqb _ _ n88)
+    let high : 9 < t = omega arith in
+    rw (lt-leb _ _ high, ne_eqb _ _ n47, ne_eqb _ _ n89, ne_eqb _ _ n127, ne_eqb _ _ n32, ne_eqb _ _ n33, ne_eqb _ _ n81, ne_eqb _ _ n84, ne_eqb _ _ n88)

@@ -1,8 +1,6 @@
 -- `key` meets its contract, by its one test.
+use Rattle.smf.proofs.Answer.{by_test}
 use Rattle.write.proofs.make.key.Goals as goal
 
-pub returns-then-minor : goal.returns-then-minor
-returns-then-minor c = λ bytes. rw c.if-minor.true (c.own_bytes.ensures bytes)
-
 pub returns : goal.returns
-returns c = λ bytes. rw c.if-minor.false (c.own_bytes-2.ensures bytes)
+returns c = λ bytes. by_test c.args.minor (λ t. rw t (rw (c.from.ensures, t) at (c.own_bytes.ensures bytes))) (λ t. rw t (rw (c.from.ensures, t) at (c.own_bytes.ensures bytes)))

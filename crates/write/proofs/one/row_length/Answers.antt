@@ -5,15 +5,11 @@ use Rattle.write.specs.Size.{size_judged, size_event}
 use Rattle.write.proofs.Doors.{row_number, told}
 use Rattle.write.proofs.one.row_length.Goals as goal
 
-pub returns-then-not-is_valid : goal.returns-then-not-is_valid
-unfolding size_event
-returns-then-not-is_valid c = rw (← c.is_valid.ensures, c.if-not-is_valid.true)
-
-pub measured-requires : goal.measured-requires
-measured-requires c =
+pub length_from-requires : goal.length_from-requires
+length_from-requires c =
     let a = c.args in
     told a.bytes.now (row_judged (rules_of a.rules) a.bytes.now a.row) (row_number (rules_of a.rules) a.bytes.now a.row) c.row_raw.result c.row_raw.ensures
 
 pub returns : goal.returns
 unfolding size_event size_judged
-returns c = let v = c.is_valid in rw (← v.ensures, c.if-not-is_valid.false, ← c.row_raw.ensures) c.measured.ensures
+returns c = rw (← c.row_raw.ensures) c.length_from.ensures

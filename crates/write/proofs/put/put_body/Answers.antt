@@ -1,4 +1,6 @@
 -- `put_body` meets its contract, form by form.
+use lib.Dec.{leb}
+use Rattle.smf.proofs.Answer.{both}
 use mathlib.Core.Path.{◌≡◌, subst}
 use mathlib.Core.Bool.{true}
 use mathlib.Core.List.{List}
@@ -35,7 +37,7 @@ put_typed-requires c = let a = c.args in let r = subst (Ready a.bytes.now a.runn
 
 pub put_fixed-requires : goal.put_fixed-requires
 unfolding is_sound wire_of raw_length
-put_fixed-requires c = let a = c.args in let r = subst (Ready a.bytes.now a.running.status a.at (length a.out.now)) c.in-Fixed.is c.requires in (leb-true _ 5 r.0, roomy a.bytes.now a.running.status a.at (length a.out.now) (raw.Fixed c.in-Fixed.type_byte c.in-Fixed.own) r)
+put_fixed-requires c = let a = c.args in let r = subst (Ready a.bytes.now a.running.status a.at (length a.out.now)) c.in-Fixed.is c.requires in (leb-true _ _ (both (leb c.in-Fixed.own.n 5) (leb c.in-Fixed.own.n (length c.in-Fixed.own.bytes)) r.0).1, roomy a.bytes.now a.running.status a.at (length a.out.now) (raw.Fixed c.in-Fixed.type_byte c.in-Fixed.own) r)
 
 pub returns-in-Channel : goal.returns-in-Channel
 unfolding wire_of

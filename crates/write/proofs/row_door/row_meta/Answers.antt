@@ -18,13 +18,13 @@ pub returns-in-288 : goal.returns-in-288
 unfolding fields_fit row_meta
 returns-in-288 c =
     let a = c.args in
-    rw (c.in-288.is, channel_made (rules_of a.rules) a.bytes.now a.a) (c.narrow.ensures _ ∙ sym (narrower (ltb a.a 256) (ltb a.a 16) _ _ (small a.a 16 256 (omega arith))))
+    rw (c.in-288.is, channel_made (rules_of a.rules) a.bytes.now a.row.a) (c.narrow.ensures _ ∙ sym (narrower (ltb a.row.a 256) (ltb a.row.a 16) _ _ (small a.row.a 16 256 (omega arith))))
 
 pub returns-in-289 : goal.returns-in-289
 unfolding fields_fit row_meta
 returns-in-289 c =
     let a = c.args in
-    rw (c.in-289.is, port_made (rules_of a.rules) a.bytes.now a.a) (c.narrow-in-289.ensures _ ∙ sym (narrower (ltb a.a 256) (ltb a.a 128) _ _ (small a.a 128 256 (omega arith))))
+    rw (c.in-289.is, port_made (rules_of a.rules) a.bytes.now a.row.a) (c.narrow-in-289.ensures _ ∙ sym (narrower (ltb a.row.a 256) (ltb a.row.a 128) _ _ (small a.row.a 128 256 (omega arith))))
 
 pub returns-in-303 : goal.returns-in-303
 unfolding fields_fit row_meta
@@ -34,7 +34,7 @@ pub returns-in-337 : goal.returns-in-337
 unfolding fields_fit row_meta
 returns-in-337 c =
     let a = c.args in
-    rw (c.in-337.is, tempo_made (rules_of a.rules) a.bytes.now a.a) (c.tempo.ensures _ ∙ sym (narrower (ltb a.a (2 ^ 32)) (ltb a.a 16777216) _ _ (small a.a 16777216 (2 ^ 32) (omega arith))))
+    rw (c.in-337.is, tempo_made (rules_of a.rules) a.bytes.now a.row.a) (c.tempo.ensures _ ∙ sym (narrower (ltb a.row.a (2 ^ 32)) (ltb a.row.a 16777216) _ _ (small a.row.a 16777216 (2 ^ 32) (omega arith))))
 
 pub returns-in-340 : goal.returns-in-340
 unfolding fields_fit row_meta
@@ -60,7 +60,7 @@ pub returns-in_default : goal.returns-in_default
 returns-in_default c =
     let a = c.args in
     let p = c.requires in
-    let t = a.number in
+    let t = a.row.number in
     let n256 : t ≡ 256 → ⊥ = omega arith in
     let n288 : t ≡ 288 → ⊥ = omega arith in
     let n289 : t ≡ 289 → ⊥ = omega arith in
@@ -71,4 +71,4 @@ returns-in_default c =
     let n345 : t ≡ 345 → ⊥ = omega arith in
     let n383 : t ≡ 383 → ⊥ = omega arith in
     let n512 : t ≡ 512 → ⊥ = omega arith in
-    rw (text_fits (rules_of a.rules) a.bytes.now a.a a.b a.c a.d a.e a.f t p.0 p.1 p.2 n256 n288 n289 n303 n337 n340 n344 n345 n383 n512, text_meta (rules_of a.rules) a.bytes.now a.a a.b a.c a.d a.e a.f t p.0 p.1 p.2 n256 n288 n289 n303 n337 n340 n344 n345 n383 n512 (span_of a.load)) (c.row_text.ensures _)
+    rw (text_fits (rules_of a.rules) a.bytes.now a.row.a a.row.b a.row.c a.row.d a.row.e a.row.f t p.0 p.1 p.2 n256 n288 n289 n303 n337 n340 n344 n345 n383 n512, text_meta (rules_of a.rules) a.bytes.now a.row.a a.row.b a.row.c a.row.d a.row.e a.row.f t p.0 p.1 p.2 n256 n288 n289 n303 n337 n340 n344 n345 n383 n512 (span_of a.row.load)) (c.row_text.ensures _)

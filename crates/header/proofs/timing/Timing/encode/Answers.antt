@@ -1,6 +1,7 @@
 -- `Timing::encode` meets its contract: two bytes of the ticks, or minus the rate and a byte.
 use mathlib.Core.Path.{◌≡◌, sym, ap, ◌∙◌}
-use Prim.Native.Nat.{ℕ, ◌-◌, ◌<◌}
+use Prim.Native.Nat.{ℕ, ◌-◌, ◌<◌, ◌/◌}
+use native.Mathlib.Nat.{mod-eq_of_lt}
 use native.Mathlib.Omega.{arith}
 use lib.IntN.{pos, ◌-ℤ◌}
 use mir.Syntax.{w8}
@@ -20,7 +21,8 @@ returns-then-ticks-gt32767 c =
 
 pub returns-else-ticks-gt32767 : goal.returns-else-ticks-gt32767
 returns-else-ticks-gt32767 c =
-    rw (c.in-Metrical.is, c.as_int-ticks.ensures)
+    let high : c.as_int-ticks.result / 256 < 256 = omega arith in
+    rw (c.in-Metrical.is, c.to_be_bytes.ensures, mod-eq_of_lt high, c.as_int-ticks.ensures)
     (sym (ticks_written c.in-Metrical.ticks.0 (omega (arith, c.as_int-ticks.ensures))))
 
 -- the machine's minus of a small number: it fits, and its byte is 256 less the number

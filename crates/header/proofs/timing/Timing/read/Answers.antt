@@ -2,6 +2,8 @@
 use mathlib.Core.Path.{◌≡◌, sym, ap, ◌∙◌}
 use Prim.Native.Nat.{ℕ, ◌-◌, ◌<◌, ◌≤◌}
 use native.Mathlib.Omega.{arith}
+use borrow.Author.Rules.{rules}
+use Rattle.std.specs.Prelude.{Err}
 use lib.IntN.{ℤ, pos, neg_ℤ, nat_abs}
 use lib.ListN.{get_or}
 use mir.Syntax.{w8, w16}
@@ -18,14 +20,14 @@ use Rattle.header.specs.Fps.{tried_fps}
 use Rattle.header.proofs.timing.Timing.read.Goals as goal
 use Rattle.header.proofs.timing.Timing.read.Goals.{After-from_int, After-negated-rate}
 
-pub returns-then-raw-lt2 : goal.returns-then-raw-lt2
+pub returns-in_default : goal.returns-in_default
 unfolding read_timing
-returns-then-raw-lt2 c = sym (field_short timing_from c.args.raw.now c.if-raw-lt2.true)
+returns-in_default c = sym (field_short timing_from c.args.raw.now (search rules))
 
 pub returns-then-high-lt128 : goal.returns-then-high-lt128
 unfolding read_timing
 returns-then-high-lt128 c =
-    sym (field_whole timing_from c.args.raw.now c.if-raw-lt2.false
+    sym (field_whole timing_from c.args.raw.now (search rules)
     ∙ timing_ticks _ _ c.if-high-lt128.true
     ∙ ap (λ x. gives (metrical x)) (sym c.word.ensures))
 
@@ -48,14 +50,16 @@ overflow_cast-rate c = rw (rate_is (goal.at.overflow_cast-rate c).After-negated-
 told : (c : After-from_int) → read_timing c.args.raw.now ≡ and_then (tried_fps c.from_int.result) (λ rate. gives (timecode rate (get_or c.args.raw.now 1 0)))
 unfolding read_timing
 told c =
-    field_whole timing_from c.args.raw.now c.if-raw-lt2.false
+    field_whole timing_from c.args.raw.now (search rules)
     ∙ timing_rate_lem _ _ c.if-high-lt128.false
     ∙ ap (λ r. and_then r (λ rate. gives (timecode rate (get_or c.args.raw.now 1 0))))
     (sym (c.from_int.ensures
     ∙ ap to_rate (ap nat_abs (minus (get_or c.args.raw.now 0 0) c.from_byte.result c.negated-rate.result c.from_byte.type_inv c.negated-rate.type_inv c.from_byte.ensures c.negated-rate.ensures c.if-high-lt128.false (omega (arith, c.type_inv.raw 0))))))
 
-pub returns-in-Made : goal.returns-in-Made
-returns-in-Made c = sym (told (goal.at.returns-in-Made c).After-from_int ∙ rw c.in-Made.is)
+pub returns : goal.returns
+returns c = sym (told (goal.at.returns c).After-from_int ∙ rw c.in_ok-fps.was)
 
-pub returns-in-Refused : goal.returns-in-Refused
-returns-in-Refused c = sym (told (goal.at.returns-in-Refused c).After-from_int ∙ rw c.in-Refused.is)
+pub returns-in_err-fps : goal.returns-in_err-fps
+returns-in_err-fps c =
+    let e : c.from_residual.result ≡ Err c.in_err-fps.field-0.0 = search rules in
+    rw e (sym (told (goal.at.returns-in_err-fps c).After-from_int ∙ rw c.in_err-fps.was))

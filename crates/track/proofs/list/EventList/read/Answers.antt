@@ -10,7 +10,7 @@ use Rattle.track.specs.List.{capacity}
 use Rattle.track.proofs.Reading.{took}
 use Rattle.track.proofs.Filling.{invalid, filling_first, filled, filling_more}
 use Rattle.track.proofs.list.EventList.read.Goals as goal
-use Rattle.track.proofs.list.EventList.read.Goals.{In-Event, then-is_valid+in-Stop, else-is_valid}
+use Rattle.track.proofs.list.EventList.read.Goals.{In-Ok, then-is_valid+in-Err, else-is_valid}
 
 pub loop-why-init : goal.loop-why-init
 loop-why-init c =
@@ -20,40 +20,40 @@ loop-why-init c =
     (sym c.is_valid.ensures ∙ c.if-is_valid.true)
 
 -- the step that was taken
-taken : (c : In-Event) → let a = c.args in let step = c.in-Event.step in Took (rules_of a.rules) capacity a.raw.now a.at (reader_of c.loop-why.cursor) (event_of step.event) step.padding (reader_of step.cursor)
-taken c = took c.loop-why.invariant.sofar (sym c.next.ensures ∙ ap next_of c.in-Event.is)
+taken : (c : In-Ok) → let a = c.args in let step = c.in-Ok.step in Took (rules_of a.rules) capacity a.raw.now a.at (reader_of c.loop-why.cursor) (event_of step.event) step.padding (reader_of step.cursor)
+taken c = took c.loop-why.invariant.sofar (sym c.next.ensures ∙ ap next_of c.in-Ok.is)
 
 -- there is a record for the event
-room : (c : In-Event) → c.loop-why.cursor.count < capacity
+room : (c : In-Ok) → c.loop-why.cursor.count < capacity
 room c = (taken c).room
 
-pub offset_bounds-list-count : goal.offset_bounds-list-count
-offset_bounds-list-count c = record { fits = omega (arith, room (goal.at.offset_bounds-list-count c).In-Event) }
+pub offset_bounds-list-cursor : goal.offset_bounds-list-cursor
+offset_bounds-list-cursor c = record { fits = omega (arith, room (goal.at.offset_bounds-list-cursor c).In-Ok) }
 
-pub bounds-list-count : goal.bounds-list-count
-bounds-list-count c = room (goal.at.bounds-list-count c).In-Event
+pub bounds-list-cursor : goal.bounds-list-cursor
+bounds-list-cursor c = room (goal.at.bounds-list-cursor c).In-Ok
 
 pub overflow_add-padding : goal.overflow_add-padding
 overflow_add-padding c =
-    omega (arith, (taken (goal.at.overflow_add-padding c).In-Event).padded, (taken (goal.at.overflow_add-padding c).In-Event).within, c.loop-why.invariant.sofar.padded)
+    omega (arith, (taken (goal.at.overflow_add-padding c).In-Ok).padded, (taken (goal.at.overflow_add-padding c).In-Ok).within, c.loop-why.invariant.sofar.padded)
 
 pub loop-why-smaller : goal.loop-why-smaller
 loop-why-smaller c =
-    let t = taken (goal.at.loop-why-smaller c).In-Event in
+    let t = taken (goal.at.loop-why-smaller c).In-Ok in
     omega (arith, t.moved, t.within)
 
 pub loop-why-preserved : goal.loop-why-preserved
 loop-why-preserved c =
-    filling_more c.loop-why.invariant c.next.result c.next.ensures c.in-Event.step c.in-Event.is c.recorded-kept.result c.recorded-kept.ensures
+    filling_more c.loop-why.invariant c.next.result c.next.ensures c.in-Ok.step c.in-Ok.is c.recorded.result c.recorded.ensures
 
 pub returns : goal.returns
 returns c =
     let a = c.args in
     let l = c.new-list.result in
     elim c.if-is_valid.branch [
-      | then-is_valid+in-Stop w ↦
+      | then-is_valid+in-Err w ↦
           rw (w.list-is, w.cursor-is, w.padding-is, w.stop-is)
-          (filled w.loop-why.invariant w.next.result w.next.ensures w.in-Stop.why w.in-Stop.is)
+          (filled w.loop-why.invariant w.next.result w.next.ensures w.in-Err.why w.in-Err.is)
       | else-is_valid w ↦
           rw (w.list-is, w.cursor-is, w.padding-is, w.stop-is)
           (invalid capacity (rules_of a.rules) a.raw.now a.at a.running.status l.records l.count c.new-list.ensures

@@ -1,9 +1,0 @@
--- `copy` ends: each turn is a number on.
-use Rattle.std.proofs.Common.{length, ◌-◌, ◌≡◌}
-use Rattle.vectors.proofs.cells.copy.Given as goal
-
-abbrev pub invariant-loop-i : goal.invariant-loop-i
-invariant-loop-i l = length l.to ≡ length l.initial.to
-
-abbrev pub decreases-loop-i : goal.decreases-loop-i
-decreases-loop-i l = length l.from - l.i

@@ -1,6 +1,0 @@
--- `read` ends: each turn is a byte on.
-use Rattle.std.proofs.Common.{length, ◌-◌}
-use Rattle.vectors.proofs.line.read.Given as goal
-
-abbrev pub decreases-loop-i : goal.decreases-loop-i
-decreases-loop-i l = length l.text - l.i

@@ -1,6 +1,0 @@
--- `all` ends: each turn is a byte on.
-use Rattle.std.proofs.Common.{length, ◌-◌}
-use Rattle.vectors.proofs.lines.all.Given as goal
-
-abbrev pub decreases-loop-i : goal.decreases-loop-i
-decreases-loop-i g l = length l.text - l.i

@@ -1,6 +1,0 @@
--- `say` ends: each turn is a byte on.
-use Rattle.std.proofs.Common.{length, ◌-◌}
-use Rattle.vectors.proofs.text.say.Given as goal
-
-abbrev pub decreases-loop-i : goal.decreases-loop-i
-decreases-loop-i g l = length l.form - l.i
