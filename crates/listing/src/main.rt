@@ -4,13 +4,14 @@
 
 mod banks;
 mod events;
+mod input;
 mod kinds;
 
 use crate::banks::{is_given, told};
 use crate::events::listed;
+use crate::input::read_full;
 use base::{Rules, Running};
 use std::io;
-use std::io::Read;
 use track::list::EventList;
 
 // The most bytes that are listed. They are no fewer than a bank may have, `bank::LARGEST`, so that one byte more shows
@@ -20,15 +21,16 @@ const LONGEST: usize = 65536;
 // Reads standard input and lists it. Of a bank that is too long the bytes that are read are too long too, and have its
 // count, so that they are refused by its number.
 fn main(rt: HostRuntime) -> io::Result<()> {
-    let mut bytes = Vec::new(rt.alloc());
     // one byte more than is listed, to see that there is more
-    rt.stdin().take(LONGEST as u64 + 1).read_to_end(&mut bytes)?;
+    let mut room = [0u8; LONGEST + 1];
+    let length = read_full(&mut rt.stdin(), &mut room)?;
+    let bytes = &room[..length];
     if is_given(&rt, 1) {
-        return told(&rt, &bytes);
+        return told(&rt, bytes);
     }
     if LONGEST < bytes.len() {
         return println!(&rt; "too long");
     }
-    let read = EventList::read(&bytes, 0, Running { status: 0 }, Rules { strict: false });
+    let read = EventList::read(bytes, 0, Running { status: 0 }, Rules { strict: false });
     listed(&rt, &read)
 }

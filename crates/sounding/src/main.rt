@@ -2,10 +2,12 @@
 // where reading stopped.
 #![tactic(auto)]
 
+mod input;
+
+use crate::input::read_full;
 use base::{Rules, Running};
 use player::notes::after;
 use player::table::{CHANNELS, KEYS, counts, fresh};
-use std::io::Read;
 use std::{fmt, io};
 use track::cursor::Stop;
 use track::list::EventList;
@@ -77,11 +79,11 @@ fn play(out: &impl Print, raw: &[u8]) -> io::Result<()> {
 
 // Reads standard input and says what sounds at its end.
 fn main(rt: HostRuntime) -> io::Result<()> {
-    let mut bytes = Vec::new(rt.alloc());
     // one byte more than is read, to see that there is more
-    rt.stdin().take(LONGEST as u64 + 1).read_to_end(&mut bytes)?;
-    if LONGEST < bytes.len() {
+    let mut room = [0u8; LONGEST + 1];
+    let length = read_full(&mut rt.stdin(), &mut room)?;
+    if LONGEST < length {
         return println!(&rt; "too long");
     }
-    play(&rt, &bytes)
+    play(&rt, &room[..length])
 }

@@ -63,6 +63,14 @@ pub fn part(cells: &[u64; CELLS], before: usize, last: usize) -> &[u64] {
         .unwrap_or(&[])
 }
 
+// Numbers as bytes, in room that is lent and holds those of a line: no line asks for memory, which there might not be.
+pub fn narrow<'a>(numbers: &[u64], low: &'a mut [u8; LINE]) -> &'a [u8] {
+    for (byte, number) in low.iter_mut().zip(numbers) {
+        *byte = crate::cells::byte(*number);
+    }
+    &low[..numbers.len().min(LINE)]
+}
+
 // As many numbers as there is room for, copied to a place.
 fn copy(from: &[u64], to: &mut [u64], at: usize) {
     for (cell, number) in to.iter_mut().skip(at).zip(from) {

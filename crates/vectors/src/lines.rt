@@ -1,10 +1,15 @@
 // Lines, each of which is asked of the port. A line begins with a letter, with # where it is a remark, with - where it
 // names the lines behind it, with , where it is words to write and with . where it ends them. The port's answer is
 // compared with the line's, and written where the line has `=` and no number behind it.
-use crate::cells::{CELLS, Given, byte, numbers, part, same};
+use crate::cells::{CELLS, Given, LINE, narrow, numbers, part, same};
+use crate::input::read_full;
 use crate::line::Line;
 use crate::{bends, fields, reads, records, sheets, text, times, widths, writes};
+use std::io::Read;
 use std::{fmt, io};
+
+// The most bytes of standard input: 1 MiB.
+pub const INPUT: usize = 0x10_0000;
 
 // How many answers were compared, and how many of these differ.
 #[derive(Clone, Copy)]
@@ -129,18 +134,12 @@ fn besides(given: Given, bytes: &[u8], cells: &mut [u64; CELLS]) -> usize {
 }
 
 // Asks a line's question.
-fn question(
-    rt: &(impl Print + AllocGlobal),
-    text: &[u8],
-    cells: &mut [u64; CELLS],
-) -> io::Result<Outcome> {
+fn question(rt: &impl Print, text: &[u8], cells: &mut [u64; CELLS]) -> io::Result<Outcome> {
     let line = Line::read(text, cells);
-    let bytes: Vec<u8> = part(cells, line.bytes, line.answer)
-        .iter()
-        .map(|n| byte(*n))
-        .collect(rt.alloc())?;
+    let mut low = [0u8; LINE];
+    let bytes = narrow(part(cells, line.bytes, line.answer), &mut low);
     let given = numbers(cells, line.bytes);
-    let count = answered(given, &bytes, cells);
+    let count = answered(given, bytes, cells);
     if line.answer == line.last {
         text::answer(rt, given.letter, cells)?;
         return Ok(Outcome::Written);
@@ -154,7 +153,7 @@ fn question(
 
 // A line, and what was compared then. A name ends the group before it, and so do words.
 fn taken(
-    rt: &(impl Print + AllocGlobal),
+    rt: &impl Print,
     text: &[u8],
     cells: &mut [u64; CELLS],
     tally: &mut Tally,
@@ -183,11 +182,7 @@ fn taken(
 }
 
 // All lines of a text, and what was compared. What stands behind the end of the last line is none.
-pub fn all(
-    rt: &(impl Print + AllocGlobal),
-    text: &[u8],
-    cells: &mut [u64; CELLS],
-) -> io::Result<Tally> {
+pub fn all(rt: &impl Print, text: &[u8], cells: &mut [u64; CELLS]) -> io::Result<Tally> {
     let mut tally = Tally {
         group: Count::none(),
         all: Count::none(),
@@ -202,12 +197,22 @@ pub fn all(
     Ok(tally)
 }
 
-// The lines of standard input.
+// Reads standard input: how many bytes it has.
+pub fn read(input: &mut impl Read, room: &mut [u8; INPUT]) -> io::Result<usize> {
+    read_full(input, room)
+}
+
+// The lines of so many bytes of standard input.
 pub fn stored(
-    rt: &(impl Print + AllocGlobal),
-    text: &[u8],
+    rt: &impl Print,
+    room: &[u8; INPUT],
+    length: usize,
     cells: &mut [u64; CELLS],
 ) -> io::Result<()> {
+    let text: &[u8] = room;
+    let Some(text) = text.get(..length) else {
+        return Ok(()); // more than the room holds, which is never read
+    };
     let tally = all(rt, text, cells)?;
     let count = tally.all;
     println!(rt; "in all: {count}")

@@ -9,6 +9,7 @@ mod cells;
 mod examples;
 mod fields;
 mod floats;
+mod input;
 mod line;
 mod lines;
 mod reads;
@@ -20,20 +21,17 @@ mod widths;
 mod writes;
 
 use crate::cells::CELLS;
+use crate::lines::INPUT;
 use std::io;
-use std::io::Read;
-
-// The most bytes of standard input: 1 MiB.
-const INPUT: u64 = 0x10_0000;
 
 // Runs the examples of the program's own text, then the stored answers of standard input.
 fn main(rt: HostRuntime) -> io::Result<()> {
+    let mut room = [0u8; INPUT];
     let mut cells = [0u64; CELLS];
     lines::all(&rt, examples::NUMBERS, &mut cells)?;
     lines::all(&rt, examples::TRACKS, &mut cells)?;
     lines::all(&rt, examples::WRONG, &mut cells)?;
     lines::all(&rt, examples::WORKED, &mut cells)?;
-    let mut text = Vec::new(rt.alloc());
-    rt.stdin().take(INPUT).read_to_end(&mut text)?;
-    lines::stored(&rt, &text, &mut cells)
+    let length = lines::read(&mut rt.stdin(), &mut room)?;
+    lines::stored(&rt, &room, length, &mut cells)
 }
