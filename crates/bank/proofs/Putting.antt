@@ -1,19 +1,35 @@
 -- What the writer's loops leave: what is still to be put over what is there is what is to be put in all.
-use mathlib.Core.Path.{◌≡◌, sym, ap, ◌∙◌}
+use Rattle.std.specs.Prelude.{Result, Ok}
+use mathlib.Core.Path.{◌≡◌, refl, sym, ap, ◌∙◌}
+use mathlib.Core.Bool.{true}
 use mathlib.Core.List.{List, ◌++◌, flatten}
 use Prim.Native.Nat.{ℕ, ◌+◌, ◌≤◌, ◌<◌}
 use native.Mathlib.Omega.{arith}
 use lib.ListN.{length, get_or}
-use Rattle.smf.specs.Place.{Span, bytes_of}
-use Rattle.smf.specs.Write.{over}
-use Rattle.smf.proofs.Write.{over_over, length_over}
+use Rattle.smf.specs.Place.{Span, inside, bytes_of}
+use Rattle.smf.specs.Write.{Written, over, part, write}
+use Rattle.smf.proofs.Write.{over_over, length_over, slice_fits}
 use Rattle.base.specs.declared.Range.{Range}
+use Rattle.base.specs.declared.Refusal.{Refusal}
+use Rattle.number.specs.Varlen.{write_left}
+use Rattle.number.proofs.Identical.{written_to_injective}
 use Rattle.write.proofs.Storing.{over_none}
 use Rattle.bank.specs.Bank.{four_bytes, behind_entries, entries, bank_length}
 use Rattle.bank.specs.Write.{tracks_of}
 use Rattle.bank.specs.Answers.{spans_of}
 use Rattle.bank.proofs.Rest.{Rest, range, rest_first, rest_inside, rest_long, rest_next, rest_more, rest_bound, none}
 use Rattle.bank.proofs.Rest as rest
+
+-- a range of the bytes that was put where it fits
+pub slice_put : (bytes : List ℕ) (span : Span) (s : List ℕ) (at : ℕ) (w : Written) → inside bytes span ≡ true → at + span.length ≤ length s
+    → w ≡ write (part bytes span) s at → w.buffer ≡ over (bytes_of bytes span) s at
+slice_put bytes span s at w is h e = ap (λ (x : Written). x.buffer) (e ∙ sym (slice_fits bytes span s at is h (over (bytes_of bytes span) s at) refl))
+
+-- and what is answered of it: the place behind it
+pub slice_there : (bytes : List ℕ) (span : Span) (s : List ℕ) (at : ℕ) (r : Result ℕ Refusal) (end : List ℕ) → inside bytes span ≡ true → at + span.length ≤ length s
+    → write_left r end ≡ write (part bytes span) s at → r ≡ Ok (at + span.length)
+slice_there bytes span s at r end is h e =
+    written_to_injective (ap (λ (x : Written). x.answer) (e ∙ sym (slice_fits bytes span s at is h (over (bytes_of bytes span) s at) refl)))
 
 module _ (bytes : List ℕ) (ranges : List Range) where
   abbrev tracks : List (List ℕ)
@@ -72,13 +88,23 @@ module _ (bytes : List ℕ) (ranges : List Range) where
       pub final : over (flatten tracks) before (behind_entries (length ranges)) ≡ over (flatten (tracks_left index)) out place
 
     module _ (room : bank_length tracks ≤ length before) {out : List ℕ} {place index : ℕ} (p : TracksPut out place index) where
-      pub tracks_more : (past : Range) (end : List ℕ) → (more : index < length ranges) → end ≡ over (bytes_of bytes (range bytes ranges p.rest past more)) out place
-          → TracksPut end (place + (get_or ranges index past).length) (index + 1)
+      -- the next track has room, and so it is put and not refused
+      tracks_room : (past : Range) → index < length ranges → place + (get_or ranges index past).length ≤ length out
+      tracks_room past more = omega (arith, rest_bound bytes ranges p.rest past more, p.kept)
+
+      pub tracks_there : (past : Range) (r : Result ℕ Refusal) (end : List ℕ) → (more : index < length ranges)
+          → write_left r end ≡ write (part bytes (range bytes ranges p.rest past more)) out place → r ≡ Ok (place + (get_or ranges index past).length)
+      tracks_there past r end more e =
+          slice_there bytes (range bytes ranges p.rest past more) out place r end (rest_inside bytes ranges p.rest past more) (tracks_room past more) e
+
+      pub tracks_more : (past : Range) (w : Written) → (more : index < length ranges) → w ≡ write (part bytes (range bytes ranges p.rest past more)) out place
+          → TracksPut w.buffer (place + (get_or ranges index past).length) (index + 1)
       unfolding flatten
-      tracks_more past end more put =
+      tracks_more past w more e =
           let span = range bytes ranges p.rest past more in
           let bound = rest_bound bytes ranges p.rest past more in
           let size = rest_long bytes ranges p.rest past more in
+          let put = slice_put bytes span out place w (rest_inside bytes ranges p.rest past more) (tracks_room past more) e in
           let behind = flatten (tracks_left (index + 1)) in
           record {
             rest = rest_more bytes ranges p.rest past more;

@@ -1,11 +1,10 @@
--- Elements stored one by one, each behind the one before, are a write of all of them, and so are elements copied at once.
+-- Elements stored one by one, each behind the one before, are a write of all of them.
 use mathlib.Core.Path.{◌≡◌, ◌∙◌}
 use mathlib.Core.List.{List, [], ◌∷◌, append_assoc}
 use Prim.Native.Nat.{ℕ, suc, ◌+◌, ◌≤◌}
 use native.Mathlib.Omega.{arith}
-use borrow.Rule.Slice.PartMut.{put_mid}
 use lib.ListN.{length, take, drop, set}
-use lib.Seq.{drop-drop, sets, sets-eq}
+use lib.Seq.{sets, sets-eq}
 use Rattle.smf.specs.Write.{over}
 
 stored : (vs s : List ℕ) (at : ℕ) → at + length vs ≤ length s → sets s at vs ≡ over vs s at
@@ -13,7 +12,3 @@ stored vs s at h = sets-eq vs s at h ∙ append_assoc (take at s) vs (drop (at +
 
 pub two_stored : (s : List ℕ) (at a b : ℕ) → at + 2 ≤ length s → set (set s at a) (at + 1) b ≡ over (a ∷ b ∷ []) s at
 two_stored s at a b h = let second : at + 1 ≡ suc at = omega arith in rw second (stored (a ∷ b ∷ []) s at h)
-
--- bytes copied into their part
-pub copied : (s bs now : List ℕ) (at n : ℕ) → now ≡ bs → n ≡ length bs → put_mid at n s now ≡ over bs s at
-copied s bs now at n is long = rw (is, long, drop-drop (length bs) at s)

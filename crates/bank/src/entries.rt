@@ -55,8 +55,8 @@ pub extern "C" fn apk_bank_read(block: &[u8], ranges: &mut [u64; CELLS], count: 
     ensures count { count.new ≡ leaves (λ (tracks : List Span). length tracks) (read_bank most_tracks block.now) count.old }
 {
     let found = read_bank(block);
-    told(found.map(|bank| bank.count), count);
-    told(found.map(cells_of), ranges)
+    told(found.map(cells_of), ranges);
+    told(found.map(|bank| bank.count), count)
 }
 
 // Where the track of an index stands in the block of a bank.

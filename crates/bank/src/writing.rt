@@ -10,7 +10,7 @@ ghost use Rattle.bank.specs.Answers.{spans_of, bank_wrote, bank_left};
 use crate::inside::Inside;
 use crate::{ENTRY, HEADER, LARGEST, TRACKS};
 use base::{Range, Refusal};
-use number::payload::is_inside;
+use number::payload::{is_inside, write_slice};
 
 // Whether ranges are inside the bytes lent.
 fn are_inside(bytes: &[u8], ranges: &[Range]) -> bool
@@ -70,8 +70,7 @@ impl<'a> Inside<'a> {
         let ranges = self.ranges;
         let mut place = HEADER + ENTRY * ranges.len();
         for range in ranges {
-            let track = &bytes[range.start..range.start + range.length];
-            out[place..place + range.length].copy_from_slice(track);
+            write_slice(bytes, *range, out, place).unwrap(); // it is inside the bytes, and there is room
             place += range.length;
         }
     }
