@@ -49,9 +49,11 @@ fn time_fits(a: u64, b: u64, c: u64, d: u64, e: u64, rate: u64) -> bool
 fn fields_fit(number: u64, a: u64, b: u64, c: u64, d: u64, e: u64, f: u64) -> bool
     ensures { result ≡ fields_fit number a b c d e f }
 {
+    let two = are_bytes(a, b, c, 0, 0);
+    let one = are_bytes(a, b, 0, 0, 0);
     match number {
-        8..=11 => are_bytes(a, b, c, 0, 0),
-        12 | 13 => are_bytes(a, b, 0, 0, 0),
+        8 | 9 | 10 | 11 => two,
+        12 | 13 => one,
         14 => b < 0x1_0000 && a < 256,
         0xF0 | 0xF7 | 0x12F | 0x17F => true,
         0x100 => a == 0 || b < 0x1_0000,
