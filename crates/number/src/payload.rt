@@ -49,6 +49,17 @@ pub fn is_inside(bytes: &[u8], slice: Range) -> bool
     slice.length <= bytes.len() && slice.start <= bytes.len() - slice.length
 }
 
+// Copies bytes over as many others, one by one: the library's `copy_from_slice` would call `memmove`, a name that a program in
+// C would have to bring along.
+fn copy_over(from: &[u8], to: &mut [u8])
+    requires { length to.old ≡ length from.now }
+    ensures { to.new ≡ from.now }
+{
+    for i in 0..from.len() {
+        to[i] = from[i];
+    }
+}
+
 // Writes a range of the bytes lent as it stands, at a place of a lent buffer: 19 where it is not inside the bytes, 20
 // where there is no room.
 pub fn write_slice(bytes: &[u8], slice: Range, out: &mut [u8], at: usize) -> Result<usize, Refusal>
@@ -58,7 +69,10 @@ pub fn write_slice(bytes: &[u8], slice: Range, out: &mut [u8], at: usize) -> Res
         return Err(Refusal::PayloadOutside);
     }
     let end = end_of(out, at, slice.length)?;
-    out[at..end].copy_from_slice(&bytes[slice.start..slice.start + slice.length]);
+    copy_over(
+        &bytes[slice.start..slice.start + slice.length],
+        &mut out[at..end],
+    );
     Ok(end) // behind the slice
 }
 
@@ -83,6 +97,6 @@ pub fn write_varlen_slice(
     let len = u28(n as u32);
     let end = end_of(out, at, len.varlen_length() + n)?;
     len.put(out, end - n);
-    out[end - n..end].copy_from_slice(&bytes[start..start + n]);
+    copy_over(&bytes[start..start + n], &mut out[end - n..end]);
     Ok(end)
 }

@@ -1,5 +1,4 @@
 -- What a loop that copies a row out of cells keeps: the first i cells of the row are those from a cell on.
--- The code copies a row by `copy_from_slice`, which says the same at once; the law is kept since the pages named it.
 use mathlib.Core.Path.{◌≡◌, sym, ap, ◌∙◌}
 use mathlib.Core.List.{List}
 use Prim.Native.Nat.{ℕ, ◌+◌, ◌≤◌, ◌<◌}

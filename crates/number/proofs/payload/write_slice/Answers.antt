@@ -25,8 +25,8 @@ returns-in_err-end c =
 pub overflow_add-slice : goal.overflow_add-slice
 overflow_add-slice c = let w = inside_within c.args.bytes.now _ (sym c.is_inside.ensures ∙ c.if-not-is_inside.false) in search (rules, w)
 
-pub slice_bounds-copy_from_slice-end-2 : goal.slice_bounds-copy_from_slice-end-2
-slice_bounds-copy_from_slice-end-2 c = let w = inside_within c.args.bytes.now _ (sym c.is_inside.ensures ∙ c.if-not-is_inside.false) in search (rules, w)
+pub slice_bounds-copy_over-end : goal.slice_bounds-copy_over-end
+slice_bounds-copy_over-end c = let w = inside_within c.args.bytes.now _ (sym c.is_inside.ensures ∙ c.if-not-is_inside.false) in search (rules, w)
 
 pub returns : goal.returns
 unfolding bytes_of
@@ -37,4 +37,4 @@ returns c =
     let span : Span = record { start = a.slice.start; length = a.slice.length } in
     let same : a.slice.start + a.slice.length - a.slice.start ≡ a.slice.length = omega arith in
     ended refl e.0 (slice_fits a.bytes.now span a.out.now a.at is (omega (arith, e))
-    _ (copied a.out.now _ (bytes_of a.bytes.now span) a.at _ (c.copy_from_slice.ensures.after ∙ ap (λ (m : ℕ). take m (drop a.slice.start a.bytes.now)) same) (omega (arith, slice_long a.bytes.now span a.out.now a.at is))))
+    _ (copied a.out.now _ (bytes_of a.bytes.now span) a.at _ (c.copy_over.ensures ∙ ap (λ (m : ℕ). take m (drop a.slice.start a.bytes.now)) same) (omega (arith, slice_long a.bytes.now span a.out.now a.at is))))

@@ -64,8 +64,8 @@ returns-in_err-end c =
 pub overflow_add-start : goal.overflow_add-start
 overflow_add-start c = let w = within (goal.at.overflow_add-start c).After-varlen_length in search (rules, w)
 
-pub slice_bounds-copy_from_slice-end-2 : goal.slice_bounds-copy_from_slice-end-2
-slice_bounds-copy_from_slice-end-2 c = let w = within (goal.at.slice_bounds-copy_from_slice-end-2 c).After-varlen_length in search (rules, w)
+pub slice_bounds-copy_over-end : goal.slice_bounds-copy_over-end
+slice_bounds-copy_over-end c = let w = within (goal.at.slice_bounds-copy_over-end c).After-varlen_length in search (rules, w)
 
 pub returns : goal.returns
 unfolding part
@@ -78,6 +78,6 @@ returns c =
     let same : a.slice.start + n - a.slice.start ≡ n = omega arith in
     let first : c.in_ok-end.end - n - length (encode_number n) ≡ a.at = omega (arith, e, l) in
     let behind : c.in_ok-end.end ≡ a.at + length (encode_payload (part there)) = omega (arith, e, l, size there) in
-    let copy = copied c.put.new.out _ (part there) (c.in_ok-end.end - n) (c.in_ok-end.end - (c.in_ok-end.end - n)) (c.copy_from_slice.ensures.after ∙ ap (λ (m : ℕ). take m (drop a.slice.start a.bytes.now)) same) (omega (arith, long there, e)) in
+    let copy = copied c.put.new.out _ (part there) (c.in_ok-end.end - n) (c.in_ok-end.end - (c.in_ok-end.end - n)) (c.copy_over.ensures ∙ ap (λ (m : ℕ). take m (drop a.slice.start a.bytes.now)) same) (omega (arith, long there, e)) in
     let whole = payload_put (part there) a.out.now a.at n (long there) _ _ (c.in_ok-end.end - n) (omega (arith, e)) (c.put.ensures ∙ ap (over (encode_number n) a.out.now) first) copy (omega (arith, e, l)) in
     rw (part_bytes a.bytes.now a.slice.start n (within there) (omega arith)) (ended whole behind (put_fits (encode_payload (part there)) a.out.now a.at (omega (arith, e, l, size there))))
