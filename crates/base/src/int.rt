@@ -4,7 +4,7 @@
 // `low`, `as_int` and `try_from` stand in each impl alike: docs/RULES.md asks for tuple structs one by one, an impl may be
 // written by no macro of the repository's own, and a `TryFrom` for all that are `Restricted` would meet the library's.
 ghost use Rattle.std.specs.Prelude.{◌≡◌, ◌<◌, ℕ};
-ghost use Rattle.std.proofs.Common.{rules};
+ghost use Rattle.std.proofs.Common.{rules, ap};
 ghost use Rattle.smf.specs.Width.{low_bits, largest, try_width};
 ghost use Rattle.base.specs.Said.{said};
 ghost use Rattle.base.specs.Restricted.{tried_u2, tried_u4, tried_u7, tried_u14, tried_u15, tried_u24};
@@ -49,6 +49,9 @@ pub trait Restricted: Sized {
     ghost widened: { (raw : Self.Int) (n : ℕ) → Self.Int.Into.converts raw n → n ≡ number raw };
 
     ghost in_32: { BITS < 32 };
+
+    // No two values are one number, so that what is promised of the number permits one value alone.
+    ghost apart: { (x y : Self) → value x ≡ value y → x ≡ y };
 }
 
 // What `try_from` of each answers.
@@ -85,6 +88,8 @@ impl Restricted for u2 {
     ghost widened = { λ raw n same. same };
 
     ghost in_32 = { Prim.search rules };
+
+    ghost apart = { λ x y same. ap (λ n. record { 0 = n }) same };
 }
 
 impl TryFrom<u8> for u2 {
@@ -119,6 +124,8 @@ impl Restricted for u4 {
     ghost widened = { λ raw n same. same };
 
     ghost in_32 = { Prim.search rules };
+
+    ghost apart = { λ x y same. ap (λ n. record { 0 = n }) same };
 }
 
 impl TryFrom<u8> for u4 {
@@ -153,6 +160,8 @@ impl Restricted for u7 {
     ghost widened = { λ raw n same. same };
 
     ghost in_32 = { Prim.search rules };
+
+    ghost apart = { λ x y same. ap (λ n. record { 0 = n }) same };
 }
 
 impl TryFrom<u8> for u7 {
@@ -187,6 +196,8 @@ impl Restricted for u14 {
     ghost widened = { λ raw n same. same };
 
     ghost in_32 = { Prim.search rules };
+
+    ghost apart = { λ x y same. ap (λ n. record { 0 = n }) same };
 }
 
 impl TryFrom<u16> for u14 {
@@ -221,6 +232,8 @@ impl Restricted for u15 {
     ghost widened = { λ raw n same. same };
 
     ghost in_32 = { Prim.search rules };
+
+    ghost apart = { λ x y same. ap (λ n. record { 0 = n }) same };
 }
 
 impl TryFrom<u16> for u15 {
@@ -255,6 +268,8 @@ impl Restricted for u24 {
     ghost widened = { λ raw n same. same };
 
     ghost in_32 = { Prim.search rules };
+
+    ghost apart = { λ x y same. ap (λ n. record { 0 = n }) same };
 }
 
 impl TryFrom<u32> for u24 {

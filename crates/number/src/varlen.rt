@@ -3,7 +3,7 @@
 ghost use Rattle.std.specs.Prelude.{◌≡◌, ◌-◌, ◌^◌, ◌<◌, ◌≤◌, length};
 ghost use Rattle.smf.specs.Number.{encode_number};
 ghost use Rattle.smf.specs.Place.{number_at};
-ghost use Rattle.std.proofs.Common.{rules};
+ghost use Rattle.std.proofs.Common.{rules, ap};
 ghost use Rattle.smf.specs.Width.{try_width};
 ghost use Rattle.smf.specs.Write.{over, write, number_bytes};
 ghost use Rattle.base.specs.Rules.{rules_of};
@@ -36,6 +36,8 @@ impl Restricted for u28 {
     ghost widened = { λ raw n same. same };
 
     ghost in_32 = { Prim.search rules };
+
+    ghost apart = { λ x y same. ap (λ n. record { 0 = n }) same };
 }
 
 impl TryFrom<u32> for u28 {

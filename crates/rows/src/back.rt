@@ -249,8 +249,10 @@ impl Fitting {
     fn kind(self) -> TrackEventKind
         ensures { kind_of result ≡ row_kind self.number self.a self.b self.c self.d self.e self.f (span_of self.load) }
     {
+        if self.number < 15 { // first, since most rows are channel messages
+            return self.midi();
+        }
         match self.number {
-            0..15 => self.midi(),
             0xF0 => TrackEventKind::SysEx(self.load),
             0xF7 => TrackEventKind::Escape(self.load),
             _ => TrackEventKind::Meta(self.meta()),
