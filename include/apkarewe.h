@@ -7,11 +7,10 @@
  * writes it back.
  *
  * What it needs. No heap, no files, nothing of libc but memcpy, memmove and memset. Nothing is kept between calls, so
- * that calls from several threads do not meet. The stack, read off the machine code for x86-64 by tools/stack: 17.8 KB
+ * that calls from several threads do not meet. The stack, read off the machine code for x86-64 by tools/stack: 17.7 KB
  * for apk_sounding_after, 12.0 KB for apk_bank_list, 10.9 KB for apk_list_read, 4.4 KB for apk_sounding_counts, 3.3 KB
- * for apk_sounding_silence, 1.2 KB for apk_bank_track, 0.9 KB for apk_list_write, 0.7 KB for apk_event_write and
- * apk_list_same, 0.6 KB for apk_event_same, 0.5 KB for apk_bank_write, under half a KB for each of the rest, beside what
- * memcpy and its kind take.
+ * for apk_sounding_silence, 1.2 KB for apk_bank_track, 0.8 KB for apk_list_write, 0.7 KB for apk_list_same, 0.6 KB for
+ * apk_event_same, half a KB at most for each of the rest, beside what memcpy and its kind take.
  *
  * What an entry answers. A uint8_t: 0 where it accepts, else the number of a refusal (enum apk_answer). An entry that
  * refuses nothing answers its value, or nothing where it only fills what it is lent. After a refusal every value and

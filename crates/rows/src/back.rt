@@ -44,9 +44,9 @@ fn time_fits(a: u64, b: u64, c: u64, d: u64, e: u64, rate: u64) -> bool
     matches!(rate, 24 | 25 | 29 | 30) && are_bytes(a, b, c, d, e)
 }
 
-// Whether the numbers that a kind uses are within what their integers hold. Each kind has an arm of its own, and the channel
-// messages' bytes are looked at before: of arms for several kinds, or for a range of them, the compiler makes one comparison
-// behind the other, and lists were compared by a quarter slower, or by half.
+// Whether the numbers that a kind uses are within what their integers hold. Each kind has an arm of its own, and the bytes of
+// channel messages are looked at first: of an arm for several kinds, or for a range of them, the compiler makes one comparison
+// behind the other, and to compare two lists took a quarter longer, or a half.
 #[tactic(auto, unfolding(crate::specs::RowEvent::fields_fit))]
 fn fields_fit(number: u64, a: u64, b: u64, c: u64, d: u64, e: u64, f: u64) -> bool
     ensures { result ≡ fields_fit number a b c d e f }
@@ -288,7 +288,7 @@ pub fn row_event(row: [u64; WIDTH]) -> Result<TrackEvent, Refusal>
     })
 }
 
-// The row that starts at a cell, where its cells are there. `cells_at` of `write` is the same line: one function for both would
+// The row that starts at a cell, where its cells are there. `cells_at` of `write` promises the same: one function for both would
 // be public, and so could not ask its caller for the cells.
 fn row_at(cells: &[u64], at: usize) -> [u64; WIDTH]
     requires { at + width ≤ length cells.now }
